@@ -12,8 +12,7 @@ same where nothing is rolled, and where nothing is sealed.
 Memory is looked at twice: as it is, and with MALLOC_ARENA_MAX=1, as the units of contrib/systemd have it, where the C
 library keeps no room for each thread.
 
-It prints what it counted, and answers 1 where a message takes more than MOST_MORE steps more: a fifth of what one took in
-version 1.9.0, beside 40. Since then it takes fewer, of which the same growth is a greater part. The goal for
+It prints what it counted, and answers 1 where a message takes more than MOST_STEPS times as many steps. The goal for
 memory, 1.1 times, is met with MALLOC_ARENA_MAX=1, but not while 2,000 segments are named: docs/SPEED.md has by what."""
 import os
 import random
@@ -26,7 +25,7 @@ import time
 from steps_of_batches import counted, within
 from trials import DAY, LEAST, MOST_KEPT as NOTHING, TIME, a_message, a_set, in_memory, padded
 
-MOST_MORE, GOAL = 1_266, 1.1
+MOST_STEPS, GOAL = 1.2, 1.1
 FEW, MANY = 40, 4_000
 LIMIT = 1 << 20
 COUNTED = ("flow_feed::giving::give", "flow_shared::shared::SharedArchive::roll_turn")
@@ -82,10 +81,10 @@ def of_a_message(program, place, count):
 
 def steps(program, place):
     (few, few_turns), (many, many_turns) = (of_a_message(program, place, count) for count in (FEW, MANY))
-    print("grows: a message takes %.0f steps where %d segments are sealed, %.0f where %d are: %.0f more, at most %d, %.2f "
-          "times; idle turns of the roller %.0f and %.0f more"
-          % (few, FEW, many, MANY, many - few, MOST_MORE, many / few, few_turns, many_turns), flush=True)
-    return many - few <= MOST_MORE
+    print("grows: a message takes %.0f steps where %d segments are sealed, %.0f where %d are: %.2f times, goal %.1f; "
+          "idle turns of the roller %.0f and %.0f more"
+          % (few, FEW, many, MANY, many / few, MOST_STEPS, few_turns, many_turns), flush=True)
+    return many <= MOST_STEPS * few
 
 
 # ---- Memory ----

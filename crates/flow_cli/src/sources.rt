@@ -1,4 +1,4 @@
 //! What the program is built from: `./renew-release --stamp` writes this file.
 
 /// The version, and the first digits of the sum of the sources.
-pub const VERSION: &str = "1.9.1 (sources e1663a51e561)";
+pub const VERSION: &str = "1.9.2 (sources 9755918938dd)";

@@ -44,7 +44,7 @@ use std::os::unix::fs::FileExt;
 const AFTER_ALL: u64 = 1 << 32;
 
 /// When the flows of a file start.
-#[derive(Clone, Copy, Debug, PartialEq, Eq)]
+#[derive(Clone, Copy)]
 struct Starts {
     /// The start of the first interval, in seconds.
     first: u32,
@@ -53,7 +53,7 @@ struct Starts {
 }
 
 /// A file of an archive, as it is listed.
-#[derive(Clone, Copy, Debug, PartialEq, Eq)]
+#[derive(Clone, Copy)]
 struct FileLine {
     kind: Kind,
     /// The file's number.

@@ -8,7 +8,7 @@ use flow_refusals::RefusalCode;
 use std::fmt;
 
 /// The name of a file in a folder.
-#[derive(Debug, Drop)]
+#[derive(Drop)]
 struct FileName(u64);
 
 impl fmt::Display for FileName {

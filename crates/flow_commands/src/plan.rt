@@ -143,7 +143,7 @@ pub enum InputKind {
 }
 
 /// How an input is fed.
-#[derive(Clone, Copy, Debug, PartialEq, Eq)]
+#[derive(Clone, Copy)]
 pub(crate) struct InputPlan {
     pub(crate) kind: InputKind,
     /// Whether feeding ends between two messages where a file says so.
@@ -151,7 +151,7 @@ pub(crate) struct InputPlan {
 }
 
 /// The path of the file that says that feeding is to end.
-#[derive(Clone, Copy, Debug)]
+#[derive(Clone, Copy)]
 pub(crate) struct EndPath<'a> {
     pub(crate) path: &'a str,
 }

@@ -19,7 +19,7 @@ use std::{fmt, io};
 const MOST_NUMBER: u64 = 10;
 
 /// The octet at which reading stopped.
-#[derive(Clone, Copy, Debug, PartialEq, Eq)]
+#[derive(Clone, Copy)]
 enum StopPlace {
     /// This one of the File.
     OfFile(u64),
@@ -78,7 +78,7 @@ fn stop_place(stop: FeedStop) -> StopPlace
 }
 
 /// The File of this number and path stopped after so many messages.
-#[derive(Debug, Drop)]
+#[derive(Drop)]
 pub(crate) struct StoppedFile<'a> {
     pub(crate) number: u64,
     pub(crate) path: &'a str,
@@ -101,7 +101,7 @@ impl fmt::Display for StoppedFile<'_> {
 }
 
 /// The File of this number and path can't be opened.
-#[derive(Debug, Drop)]
+#[derive(Drop)]
 pub(crate) struct UnopenedFile<'a> {
     pub(crate) number: u64,
     pub(crate) path: &'a str,
@@ -119,7 +119,7 @@ impl fmt::Display for UnopenedFile<'_> {
 }
 
 /// The File of this number and path has fewer messages than were to be passed over.
-#[derive(Debug, Drop)]
+#[derive(Drop)]
 pub(crate) struct PassedFile<'a> {
     number: u64,
     path: &'a str,
@@ -161,7 +161,7 @@ impl fmt::Display for PassedFile<'_> {
 }
 
 /// A File by its number and path.
-#[derive(Clone, Copy, Debug)]
+#[derive(Clone, Copy)]
 pub(crate) struct NamedFile<'a> {
     pub(crate) number: u64,
     pub(crate) path: &'a str,
@@ -179,7 +179,7 @@ pub(crate) const WHOLE: &str = "";
 pub(crate) const SO_FAR: &str = " so far";
 
 /// Datagrams of a File that were passed over, in all or so far.
-#[derive(Debug, Drop)]
+#[derive(Drop)]
 pub(crate) struct RefusedFile<'a> {
     file: NamedFile<'a>,
     extent: &'static str,
@@ -226,7 +226,7 @@ impl fmt::Display for RefusedFile<'_> {
 }
 
 /// So many messages of so many in all are in sums alone.
-#[derive(Debug, Drop)]
+#[derive(Drop)]
 pub(crate) struct RolledMessages {
     pub(crate) rolled: u64,
     /// Those of them that are in sums over wide intervals.
@@ -249,7 +249,7 @@ impl fmt::Display for RolledMessages {
 }
 
 /// What sums over wide intervals lose.
-#[derive(Debug, Drop)]
+#[derive(Drop)]
 struct WideSums;
 
 impl fmt::Display for WideSums {
@@ -267,7 +267,7 @@ pub fn warn_of_wide<H: Wait, P: Write + Drop>(rt: &H, progress: &Progress<P>) {
 }
 
 /// What the system said of the first call on a folder that failed.
-#[derive(Debug, Drop)]
+#[derive(Drop)]
 struct SystemSaid {
     error: io::Error,
 }
@@ -286,7 +286,7 @@ pub fn tell_fault<H: Wait, P: Write + Drop>(rt: &H, progress: &Progress<P>) {
 }
 
 /// One part of what a warning says of messages.
-#[derive(Clone, Copy, Debug)]
+#[derive(Clone, Copy)]
 enum LackPart {
     /// So many data Sets of this domain had no definition in force.
     OfDomain(u64, u32),
@@ -373,7 +373,7 @@ fn parts_of(losses: Losses) -> [Option<LackPart>; 5]
 }
 
 /// What messages show of records that aren't read, or are summed otherwise than their exporter may mean.
-#[derive(Clone, Copy, Debug)]
+#[derive(Clone, Copy)]
 struct Lacks {
     parts: [Option<LackPart>; 5],
 }
@@ -419,7 +419,7 @@ pub fn shows_more(piece: Losses) -> bool
 }
 
 /// The messages of a File, all or so far, show that records aren't read, or are summed otherwise.
-#[derive(Debug, Drop)]
+#[derive(Drop)]
 pub(crate) struct LossyFile<'a> {
     file: NamedFile<'a>,
     extent: &'static str,
@@ -449,7 +449,7 @@ impl fmt::Display for LossyFile<'_> {
 }
 
 /// The messages of the File on standard input show that records aren't read, or are summed otherwise.
-#[derive(Debug, Drop)]
+#[derive(Drop)]
 struct LossyInput {
     lacks: Lacks,
 }

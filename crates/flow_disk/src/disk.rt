@@ -16,8 +16,9 @@ pub const LIMIT: u64 = 1 << 62;
 
 /// Files of octets, named by numbers. A file never written is an empty file.
 ///
-/// Each call but `read`, `read_into` and `files` takes no memory, and answers Ok or `Fault`. A fault is answered only where the
-/// count of failures rose in that call. A call that fails leaves of its file what a stop inside the call may leave.
+/// Each call but `read`, `read_into` and `files` takes no memory, and answers Ok or `Fault`. A fault is answered only
+/// where the count of failures rose in that call. A call that fails leaves of its file what a stop inside the call may
+/// leave.
 pub trait Disk: Drop {
     /// A frozen file of this disk.
     type Sealed: SealedFile;

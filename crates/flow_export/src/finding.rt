@@ -14,7 +14,7 @@ use flow_refusals::ReadRefusal;
 use std::alloc::Global;
 
 /// Where the messages of a span are, among others.
-#[derive(Clone, Copy, Debug)]
+#[derive(Clone, Copy)]
 pub(crate) struct Found {
     /// How many messages come before the first one that has a flow of the span.
     pub(crate) before: u64,

@@ -40,7 +40,7 @@ use std::alloc::Global;
 use std::io::Write;
 
 /// Which of a list of messages are asked for: those after the first `skip`, and among the first `end`.
-#[derive(Clone, Copy, Debug)]
+#[derive(Clone, Copy)]
 struct Asked {
     skip: u64,
     end: u64,

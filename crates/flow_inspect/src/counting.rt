@@ -13,7 +13,7 @@ use std::convert::Infallible;
 /// How many data records a message has, by the kind of their definition, when their flows start, how long they last,
 /// and how many of them have sums that may be other than their exporter means. Counts stop at 2^32 - 1, which no message
 /// reaches.
-#[derive(Clone, Copy, Debug)]
+#[derive(Clone, Copy)]
 pub(crate) struct RecordCounts {
     /// Those of Templates.
     pub(crate) records: u32,

@@ -15,7 +15,7 @@ const LONG: u64 = 300;
 const MILLISECONDS: u64 = 1_000;
 
 /// When a flow starts and ends, where its record has it: by IANA's elements 150, 151, 152 and 153.
-#[derive(Clone, Copy, Debug)]
+#[derive(Clone, Copy)]
 pub(crate) struct Ends {
     start_seconds: Option<u64>,
     end_seconds: Option<u64>,
@@ -24,7 +24,7 @@ pub(crate) struct Ends {
 }
 
 /// How long flows last.
-#[derive(Clone, Copy, Debug)]
+#[derive(Clone, Copy)]
 pub(crate) struct Lasted {
     /// The seconds of the longest one.
     pub(crate) longest: Option<u64>,

@@ -25,7 +25,7 @@ use std::alloc::AllocError;
 const HALF: u32 = 0x8000_0000;
 
 /// What a File has of one Observation Domain.
-#[derive(Clone, Copy, Debug)]
+#[derive(Clone, Copy)]
 pub(crate) struct DomainReport {
     pub(crate) tally: Tally,
     /// The Sequence Number that is due next.

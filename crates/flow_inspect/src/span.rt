@@ -4,7 +4,7 @@ ghost use Rattle.std.specs.Prelude.{◌≡◌};
 ghost use Rattle.flow_inspect.specs.Counting.{hull, widened};
 
 /// The least and the greatest of some times, in seconds since 1970-01-01 00:00 UTC.
-#[derive(Clone, Copy, Debug)]
+#[derive(Clone, Copy)]
 pub(crate) struct Span {
     pub(crate) first: u32,
     pub(crate) last: u32,

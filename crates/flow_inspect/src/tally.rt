@@ -7,7 +7,7 @@ use crate::lasting::{Lasted, both_lasted};
 use crate::span::{Span, hull};
 
 /// What a File has of one Observation Domain, or of all. Counts stop at 2^64 - 1.
-#[derive(Clone, Copy, Debug)]
+#[derive(Clone, Copy)]
 pub(crate) struct Tally {
     pub(crate) messages: u64,
     /// Data records of Templates.

@@ -1,7 +1,7 @@
 //! What lines ask.
 
 /// The widths of a new archive, in seconds, and the limit of its segments, in octets.
-#[derive(Clone, Copy, Debug, PartialEq, Eq)]
+#[derive(Clone, Copy)]
 pub struct Widths {
     /// The width of its narrow intervals.
     pub narrow: u32,
@@ -12,7 +12,7 @@ pub struct Widths {
 }
 
 /// What an archive is asked to do.
-#[derive(Debug, Drop)]
+#[derive(Drop)]
 pub enum Event {
     /// Add a message.
     Append(Vec<u8>),
@@ -37,7 +37,7 @@ pub enum Event {
 }
 
 /// Seconds from one on and before another.
-#[derive(Clone, Copy, Debug, PartialEq, Eq)]
+#[derive(Clone, Copy)]
 pub struct Span {
     /// The first second.
     pub from: u64,
@@ -46,7 +46,7 @@ pub struct Span {
 }
 
 /// What a reader asks of a snapshot.
-#[derive(Debug, Drop)]
+#[derive(Drop)]
 pub enum Question {
     /// The rows of a span.
     Totals(Span),
@@ -61,7 +61,7 @@ pub enum Question {
 }
 
 /// What is asked of a disk, or done to it.
-#[derive(Debug, Drop)]
+#[derive(Drop)]
 pub enum OfDisk {
     /// Write octets into a file at a place, and settle it.
     Put(u64, u64, Vec<u8>),
@@ -80,7 +80,7 @@ pub enum OfDisk {
 }
 
 /// Octets that reads of a frozen file give in place of those that it has.
-#[derive(Debug, Drop)]
+#[derive(Drop)]
 pub struct Damage {
     /// The file's number.
     pub file: u64,
@@ -91,7 +91,7 @@ pub struct Damage {
 }
 
 /// What a line asks.
-#[derive(Debug, Drop)]
+#[derive(Drop)]
 pub enum Command {
     /// Make an archive.
     Create(Widths),

@@ -15,7 +15,7 @@ pub struct Script<'a> {
 
 /// The size of a disk: how many files it has room for, how many octets each, how many calls that change a file, and how
 /// many octets are written in all.
-#[derive(Clone, Copy, Debug, PartialEq, Eq)]
+#[derive(Clone, Copy)]
 pub struct Size {
     /// How many files.
     pub files: u32,
@@ -28,7 +28,7 @@ pub struct Size {
 }
 
 /// How the disk of a part fails.
-#[derive(Clone, Copy, Debug, PartialEq, Eq)]
+#[derive(Clone, Copy, PartialEq, Eq)]
 pub enum Failing {
     /// It doesn't.
     Never,

@@ -1,6 +1,7 @@
 //! What takes the flows of a part's data records.
 
 ghost use Rattle.std.specs.Prelude.{◌≡◌, nat_le, nat_lt, option_map, ◌&&◌};
+ghost use Rattle.flow_codec.specs.Losses.{both_caveats};
 ghost use Rattle.flow_codec.specs.Replaced.{one_if};
 ghost use Rattle.flow_measure.specs.Span.{with_start};
 ghost use Rattle.flow_segment.specs.Spans.{caveats_where};
@@ -140,6 +141,17 @@ fn caveats_of(definition: &Definition, placed: bool) -> CaveatCounts
     }
 }
 
+/// These counts with those of the flow of one record more, which mostly has nothing to count.
+#[inline(always)]
+fn with_flow(caveats: CaveatCounts, definition: &Definition, placed: bool) -> CaveatCounts
+    ensures { result ≡ both_caveats caveats (caveats_where placed definition.now) }
+{
+    if placed || definition.is_uncounted() || definition.is_sampled() {
+        return caveats.and(caveats_of(definition, placed));
+    }
+    caveats
+}
+
 /// With one start more, where starts are noted.
 fn with_start(span: Option<PartSpan>, start: u32) -> Option<PartSpan>
     ensures { result ≡ option_map (λ s. with_start start s) span }
@@ -174,7 +186,7 @@ impl RecordSink for Noting {
             return Ok(());
         }
         let own = own_start_of(definition, octets);
-        self.caveats = self.caveats.and(caveats_of(definition, own.is_none()));
+        self.caveats = with_flow(self.caveats, definition, own.is_none());
         self.span = with_start(self.span, own.unwrap_or(header.time));
         Ok(())
     }

@@ -13,7 +13,7 @@ use flow_together::TogetherError;
 use std::alloc::AllocError;
 
 /// Why an archive's flows aren't all listed.
-#[derive(Debug, Drop)]
+#[derive(Drop)]
 pub(crate) enum ListingRefusal {
     /// It can't be opened, and nothing is written of it.
     Opening(OpenError),

@@ -18,7 +18,7 @@ use std::sync::{Condvar, Mutex, MutexGuard, Wait};
 const MOST_FILES: usize = 8;
 
 /// A place for a File. Files are numbered from 1 on, in the order in which they were asked for.
-#[derive(Clone, Copy, Debug, PartialEq, Eq)]
+#[derive(Clone, Copy, PartialEq, Eq)]
 enum Place {
     Free,
     /// The File of this number is fed.

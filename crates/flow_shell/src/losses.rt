@@ -19,7 +19,7 @@ use std::io::Write;
 use std::sync::Wait;
 
 /// What a File that is fed shows not to be read, or to be summed otherwise.
-#[derive(Clone, Copy, Debug, PartialEq, Eq)]
+#[derive(Clone, Copy)]
 pub(crate) enum Missed {
     /// Records, and flows that are summed otherwise, by a batch that was taken in.
     Records(Losses),
@@ -28,7 +28,7 @@ pub(crate) enum Missed {
 }
 
 /// What all Files so far show not to be read, or to be summed otherwise. Counts stop at 2^64 - 1.
-#[derive(Clone, Copy, Debug, PartialEq, Eq)]
+#[derive(Clone, Copy)]
 pub(crate) struct FeedCounts {
     /// Data Sets without a definition in force.
     sets: u64,
@@ -85,7 +85,7 @@ impl FeedCounts {
 }
 
 /// The line of the first domain, where there is one.
-#[derive(Clone, Copy, Debug)]
+#[derive(Clone, Copy)]
 struct DomainLine {
     domain: Option<u32>,
 }
@@ -103,7 +103,7 @@ impl fmt::Display for DomainLine {
 }
 
 /// The lines of the flows that are summed otherwise.
-#[derive(Clone, Copy, Debug)]
+#[derive(Clone, Copy)]
 struct CaveatLines {
     caveats: CaveatCounts,
 }
@@ -126,7 +126,7 @@ impl fmt::Display for CaveatLines {
 }
 
 /// The line of the datagrams that were passed over by a refusal, where there are any.
-#[derive(Clone, Copy, Debug)]
+#[derive(Clone, Copy)]
 struct PassedLine {
     refused: RefusedDatagrams,
     code: RefusalCode,
@@ -146,7 +146,7 @@ impl fmt::Display for PassedLine {
 }
 
 /// The lines of the datagrams that were passed over, by the numbers of their refusals.
-#[derive(Clone, Copy, Debug)]
+#[derive(Clone, Copy)]
 struct PassedLines {
     refused: RefusedDatagrams,
 }

@@ -122,7 +122,7 @@ where
 }
 
 /// How the requests ended.
-#[derive(Clone, Copy, Debug, PartialEq, Eq)]
+#[derive(Clone, Copy)]
 enum End {
     /// The input has no more of them.
     OfInput,

@@ -2,13 +2,12 @@ use Rattle.std.proofs.Common.{◌≡◌, ℕ, Option, sym, ap, ◌∙◌, refl}
 use Rattle.std.specs.Prelude.{option_map, unwrap_or}
 use Rattle.std.specs.Option.{is_none}
 use Rattle.flow_codec.specs.declared.plan.Role.TheVariants.{Seconds, Milliseconds}
-use Rattle.flow_codec.specs.Losses.{both_caveats}
 use Rattle.flow_codec.specs.Raw.{raw, Placed}
 use Rattle.flow_measure.specs.declared.flow.Flow.{Flow}
 use Rattle.flow_codec.specs.Fields.{fields_in}
 use Rattle.flow_codec.specs.Plan.{values_of}
 use Rattle.flow_measure.specs.declared.span.PartSpan.{PartSpan}
-use Rattle.flow_measure.specs.Flows.{flow_from, flows_of_records, number_in}
+use Rattle.flow_measure.specs.Flows.{flow_from, number_in}
 use Rattle.flow_measure.specs.Span.{with_start}
 use Rattle.flow_measure.proofs.OwnStarts.{start_is}
 use Rattle.flow_measure.proofs.SinkSteps.{one_more, none_more}
@@ -44,6 +43,5 @@ returns-clause-taken c = λ start taken h.
       caveats.flow_more start.caveats taken c.args.header.now c.args._id c.args.definition.now c.args.octets.now kind
           c.is_none.result (caveats.none_of c.own_start_of-own.result c.is_none.result c.is_none.ensures
           ∙ ap (λ (o : Option ℕ). is_none o) c.own_start_of-own.ensures)
-          c.args.self.now.caveats c.and-self.result
-          (c.and-self.ensures ∙ ap (both_caveats c.args.self.now.caveats) c.caveats_of.ensures) h.1,
+          c.args.self.now.caveats c.with_flow-self.result c.with_flow-self.ensures h.1,
     )
