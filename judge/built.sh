@@ -4,7 +4,7 @@
 
 cd -- "$(dirname -- "$(readlink -f -- "$0")")/.." || exit 1
 sources=$(judge/sources.sh --list) || exit 1
-for program in flow_cli flow_replay flow_refused_memory; do
+for program in flow_cli flow_replay; do
     built=crates/$program/out/$program
     if ! [ -x "$built" ]; then
         echo "$program isn't built" >&2

@@ -31,6 +31,7 @@ sys.path.insert(0, os.path.join(os.path.dirname(os.path.abspath(__file__)), ".."
 import read_archive  # noqa: E402
 
 SECONDS, WIDTH, WIDE, LEAST = 120, 300, 86_400, 65_535
+HEADER = 16
 ALL = ("0", "4294967296")
 TIME = 1_700_000_000
 
@@ -168,9 +169,13 @@ def by_tshark(path):
 
 
 def by_fixbuf(path):
-    """How many messages libfixbuf's ipfixDump finds, or what it says."""
+    """How many messages libfixbuf's ipfixDump finds, or what it says. It prints none of those that have no Set."""
     got = subprocess.run(["ipfixDump", "--in", path], capture_output=True, text=True, timeout=SECONDS)
-    return len(re.findall("^--- Message Header ---$", got.stdout, re.M)) if got.returncode == 0 else got.stderr
+    if got.returncode:
+        return got.stderr
+    with open(path, "rb") as file:
+        bare = sum(len(message) == HEADER for message in messages_of(file.read()))
+    return bare + len(re.findall("^--- Message Header ---$", got.stdout, re.M))
 
 
 def by_python(path):

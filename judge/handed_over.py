@@ -24,13 +24,13 @@ import sys
 import tempfile
 import time
 
-NAMES = ("flowvault", "flow_replay", "flow_refused_memory")
+NAMES = ("flowvault", "flow_replay")
 LINE = "1699999800 7 6 1 1500 10\n"
 CASES = "cases/messages.txt"
 SECONDS = 2
 
 # A program in the place of the built ones: it prints the version that it was built with.
-STAND_IN = "#!/bin/sh\necho 'flowvault 1.9.2 (sources %s)'\n"
+STAND_IN = "#!/bin/sh\necho 'flowvault 1.9.3 (sources %s)'\n"
 
 # A script in the place of the kit's rt: it notes how it was called, and in what, begins two crates and proves one. Then
 # it does what the file `does` beside it has, while a process of its own runs.
@@ -290,7 +290,7 @@ class Trial:
 
     def build(self, text):
         """Puts programs at the places of built ones."""
-        for name in ("flow_cli", "flow_replay", "flow_refused_memory"):
+        for name in ("flow_cli", "flow_replay"):
             os.makedirs(self.path("crates", name, "out"), exist_ok=True)
             self.write("crates/%s/out/%s" % (name, name), text)
             os.chmod(self.path("crates", name, "out", name), 0o755)

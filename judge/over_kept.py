@@ -7,8 +7,9 @@ over_kept.py --edits CRATE [NAME..]: tries wrong bodies of crates/CRATE/edits/ s
 edits/ where none is named: prints what the prover says of each, as judge/wrong_bodies.py does, and ends with status 0
 where each is refused, and none only where a proof names what is gone.
 
-over_kept.py --times CRATE: checks all of it so, and prints how many processor seconds its functions took, the longest
-first, each counted from the end of the one before it to its own; those of the first are what loading took.
+over_kept.py --times CRATE [FUNCTION..]: checks all of it so, or these functions and those that they call, and prints
+how many processor seconds each took, the longest first, counted from the end of the one before it to its own; those of
+the first to end, which is marked, are also what loading took. Stopped by Ctrl-C, it prints those of what has ended.
 
 It is for whoever writes proofs, and is no proof of a crate: a library that was proved of another text than this
 checkout has is taken too. The first form prints all but what is proved, and ends with the prover's status. It reads
@@ -98,17 +99,20 @@ def spent(process):
     return (int(fields[11]) + int(fields[12])) / os.sysconf("SC_CLK_TCK")
 
 
-def timed(crates, crate):
-    """Checks a crate, and prints what each function took. A line comes as each proof ends."""
+def timed(crates, crate, only):
+    """Checks a crate, or some functions of it, and prints what each took. A line comes as each proof ends."""
     took, before = [], 0.0
-    with subprocess.Popen([*words(crates, crate), "--progress"], cwd="crates/" + crate, stdout=subprocess.PIPE,
+    with subprocess.Popen([*words(crates, crate), *only, "--progress"], cwd="crates/" + crate, stdout=subprocess.PIPE,
                           stderr=subprocess.STDOUT, text=True) as ran:
-        for line in ran.stdout:
-            ended = re.match(r"checked (\S+), \d+ of \d+", line)
-            if ended:
-                now = spent(ran.pid)
-                took.append((now - before, ended[1]))
-                before = now
+        try:
+            for line in ran.stdout:
+                ended = re.match(r"checked (\S+), \d+ of \d+", line)
+                if ended:
+                    now = spent(ran.pid)
+                    took.append((now - before, ended[1] + ("" if took else " (with loading)")))
+                    before = now
+        except KeyboardInterrupt:
+            ran.kill()
     for seconds, name in sorted(took, reverse=True):
         print("%7.1f %s" % (seconds, name))
     print("%7.1f in all, of %d functions" % (before, len(took)))
@@ -129,9 +133,9 @@ def main():
         return 1
     if form == "--edits":
         return edits_tried(crates, crate, rest)
-    if form == "--times":
-        return timed(crates, crate)
     only = [word for it in rest if not it.startswith("-") for word in ("--only", it)]
+    if form == "--times":
+        return timed(crates, crate, only)
     flags = [it for it in rest if it.startswith("-")]
     ran = subprocess.run([*words(crates, crate), *only, *flags], cwd="crates/" + crate, stdout=subprocess.PIPE,
                          stderr=subprocess.STDOUT, text=True)

@@ -1,7 +1,7 @@
 #!/bin/sh
 # Prints one number for the names and the octets of all sources of the released programs: the SHA-256 of a list, in the
 # order of their names, of the SHA-256 of each file. Sources are crates.txt, HANDLES, and the folders src, specs and
-# proofs of each crate that flow_cli, flow_replay or flow_refused_memory uses, and of these three.
+# proofs of each crate that flow_cli or flow_replay uses, and of these two.
 # crates/flow_cli/src/sources.rt, which holds the number's first digits, isn't among them.
 # `sources.sh --list` prints the names; `sources.sh --crates PROGRAM..` the crates that these programs use, lowest
 # first, and their own.
@@ -25,7 +25,7 @@ crates_of() {
 
 list() {
     set -- crates.txt HANDLES
-    for crate in $(crates_of flow_cli flow_replay flow_refused_memory); do
+    for crate in $(crates_of flow_cli flow_replay); do
         for part in src specs proofs; do
             if [ -d "crates/$crate/$part" ]; then set -- "$@" "crates/$crate/$part"; fi
         done

@@ -4,7 +4,7 @@
 # ends with status 1: nothing that it left in the folder is to be run then.
 # `unpack.sh --sums FOLDER` prints what SHA256SUMS has to hold, where the folder has the programs as unpacked.
 
-programs='flow_refused_memory flow_replay flowvault'
+programs='flow_replay flowvault'
 here=$(dirname -- "$(readlink -f -- "$0")")
 release=$here/../release
 

@@ -146,9 +146,9 @@ impl<D: Disk> Archive<D> {
         self.total
     }
 
-    /// What the messages that were taken in show of records that aren't read, counted from what was put here last, or
-    /// since it was opened; those of the active segment count as taken in when it was opened. From now on they are
-    /// counted from these on.
+    /// What the messages that were taken in show of records that aren't read, or are summed otherwise than their exporter
+    /// may mean, counted from what was put here last; from now on they are counted from these on. Before its first call
+    /// nothing is counted, and it answers none.
     pub fn replace_losses(&mut self, losses: Losses) -> Losses
         ensures { self.new ≡ self.old }
     {

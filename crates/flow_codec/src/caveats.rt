@@ -7,7 +7,7 @@ ghost use Rattle.flow_codec.specs.Caveats.{is_packets, is_rate, with_element};
 use flow_elements::ElementId;
 
 /// Which elements the records of a definition have, by IANA's numbers alone.
-#[derive(Clone, Copy, Debug)]
+#[derive(Clone, Copy)]
 pub(crate) struct Elements {
     /// octetDeltaCount, which is summed.
     octets: bool,

@@ -2,7 +2,8 @@
 use Rattle.std.proofs.Common.{◌≡◌, ◌≢◌, ℕ, Bool, true, false, cond, is_some, Option, None, Some, refl, sym, ◌∙◌, ap}
 use Rattle.std.proofs.Common.{subst}
 use Rattle.std.proofs.Common.{Result, Ok, Err, OnOk, OnErr}
-use Rattle.std.proofs.lemmas.Bool.{false≢true}
+use Rattle.std.proofs.Common.{⊎_elim}
+use Rattle.std.proofs.lemmas.Bool.{cases_eq, false≢true}
 use Rattle.std.proofs.lemmas.Map.Lookups.{exact_unsigned}
 use Rattle.std.specs.declared.cmp.Ordering.{Ordering}
 use Rattle.std.specs.declared.cmp.Ordering.TheVariants.{Less, Equal, Greater}
@@ -71,3 +72,13 @@ known_written files now m n waits lost file p q known some updates others same c
   where
     number : p.file ≡ file
     number = (known.each file p some).number_is
+
+-- and is pending still, as is each that was
+pub pending_written : (m n : BTreeMap ℕ Pending) (file : ℕ) (p q : Pending) → get nat_cmp m file ≡ Some p
+    → UpdatesBy nat_cmp (nat_cmp file) m n (Some q) → (k : ℕ)
+    → is_some (get nat_cmp n k) ≡ is_some (get nat_cmp m k)
+pending_written m n file p q some updates k = ⊎_elim
+    (λ same. subst (λ (j : ℕ). is_some (get nat_cmp n j) ≡ is_some (get nat_cmp m j)) (sym same)
+    (ap (λ (o : Option Pending). is_some o) updates.1 ∙ sym (ap (λ (o : Option Pending). is_some o) some)))
+    (λ differs. ap (λ (o : Option Pending). is_some o) (updates.2 k (not_at file k differs)))
+    (cases_eq k file)

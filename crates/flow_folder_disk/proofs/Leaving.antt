@@ -7,7 +7,8 @@ use Rattle.flow_disk.specs.Files.{while_removing}
 use Rattle.flow_disk.proofs.Images.{changed_here, changed_there}
 use Rattle.flow_disk.specs.Moments.{Elapses, Passes, Covers}
 use Rattle.flow_directory.specs.File.{File, held_of}
-use Rattle.flow_directory.specs.Calls.{KeepsStatus, Opening}
+use Rattle.std.proofs.Common.{Result}
+use Rattle.flow_directory.specs.Calls.{KeepsStatus, Opening, ChangingMode}
 use Rattle.flow_folder_disk.specs.Known.{IsSeen, IsReached, Leaves}
 
 pub status_same : (file : File) → KeepsStatus file file
@@ -31,6 +32,9 @@ seen_then a b c first second = record {
   status = status_then a b c first.status second.status;
 }
 
+pub held_then : (was mid now : File) → now.held ≡ mid.held → mid.held ≡ was.held → now.held ≡ was.held
+held_then was mid now second first = second ∙ first
+
 pub reached_seen : (a b : File) → IsSeen a b → IsReached a b
 reached_seen a b seen = record {
   held = seen.held;
@@ -49,6 +53,17 @@ reached_then a b c first second = record {
 
 pub opening_seen : (was now : File) → Opening was now → IsSeen was now
 opening_seen was now rule = record { held = rule.held; unsure = rule.parts.each; status = rule.status }
+
+pub changing_reached : {T E : Type 0} (was now : File) (read_only : Bool) (r : Result T E)
+    → ChangingMode was now read_only r → IsReached was now
+changing_reached was now read_only r rule = record {
+  held = rule.held;
+  unsure = λ part unsure. ⊎_elim
+      (λ dirty. ⊎_elim (λ old. inl old) (λ none. absurd none) (rule.parts.dirty part dirty))
+      (λ lost. inr (rule.parts.lost part lost)) unsure;
+  linked = rule.linked;
+  lent = rule.lent;
+}
 
 -- a system that keeps its rules goes on doing so
 pub honest_then : (a b : Bool) → b ≡ a → IsTrue a → IsTrue b

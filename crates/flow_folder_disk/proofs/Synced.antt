@@ -1,13 +1,13 @@
 -- Syncs, step by step.
 use Rattle.std.proofs.Common.{◌≡◌, inl, inr, sym, ◌∙◌, ap, subst, Result, Ok}
-use Rattle.std.proofs.Common.{Err}
+use Rattle.std.proofs.Common.{Bool, Err, OnOk}
 use Rattle.std.specs.Prelude.{IsErr}
 use Rattle.std.proofs.lemmas.Bool.{false≢true}
 use Rattle.flow_disk.specs.Disk.{Held, IsImage, IsWithin, settled_at}
 use Rattle.flow_directory.specs.File.{entry, File}
 use Rattle.flow_directory.specs.Calls.{Syncing, Settling}
 use Rattle.flow_pending.specs.Tracked.{Settles}
-use Rattle.flow_folder_disk.specs.Known.{IsSure, IsSettled, IsSeen, IsReached, IsSynced}
+use Rattle.flow_folder_disk.specs.Known.{IsSure, IsSettled, IsSeen, IsReached, IsSynced, KeepsLost}
 use Rattle.flow_folder_disk.proofs.Knowing.{not_true}
 use Rattle.flow_folder_disk.proofs.Removing.{on_ok, on_any, sure_seen, settling_sure}
 
@@ -19,6 +19,16 @@ pub synced_failed : {T E : Type 0} (was now : File) (r : Result T E) → IsErr r
     → IsSynced was now r
 synced_failed was now (Ok x) is within = absurd (false≢true is)
 synced_failed was now (Err e) is within = record { done = tt; sure = tt; within = within }
+
+pub not_ok : {T E : Type 0} (A : Type 0) (r : Result T E) → IsErr r → OnOk r A
+not_ok A (Ok x) is = absurd (false≢true is)
+not_ok A (Err e) is = tt
+
+pub lost_failed : {T E : Type 0} (was now : Bool) (r : Result T E) → IsErr r → now ≡ was → KeepsLost was now r
+lost_failed was now r is same = record { done = not_ok (now ≡ was) r is; still = λ lost. same ∙ lost }
+
+pub lent_then : (was mid now : File) → now.lent ≡ mid.lent → mid.lent ≡ was.lent → now.lent ≡ was.lent
+lent_then was mid now second first = second ∙ first
 
 -- a sync of a file of which nothing waits
 pub synced_open : {T E : Type 0} (was now : File) (r : Result T E) → Syncing was now r → IsSure was → IsSynced was now r

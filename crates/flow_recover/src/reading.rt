@@ -205,13 +205,15 @@ fn read_entries<D: Disk>(
     Ok(called)
 }
 
-/// Makes a buffer of just this length, where it is shorter. Its memory is given back before more is taken.
+/// Makes a buffer of at least this length, where it is shorter. Its memory is given back before more is taken. It has
+/// 65,535 octets more than asked: the sealed segments of an archive differ by less than a message, so what serves one of
+/// them mostly serves all.
 fn lengthen(alloc: Global, buffer: &mut Vec<u8>, count: usize) -> Result<(), AllocError>
     ensures { OnOk result (count ≤ vec_len buffer.new) }
 {
     if buffer.len() < count {
         *buffer = Vec::new(alloc);
-        *buffer = vec![in alloc; 0u8; count]?;
+        *buffer = vec![in alloc; 0u8; count.saturating_add(65_535)]?;
     }
     Ok(())
 }

@@ -175,7 +175,7 @@ pub(crate) fn with_archive<D: Disk>(
     }
 }
 
-/// A part with an archive that threads share.
+/// A part with an archive that threads share: the disk afterwards, and whether the part is played.
 fn with_shared<W: Wait>(
     rt: &W,
     alloc: Global,
@@ -183,21 +183,21 @@ fn with_shared<W: Wait>(
     script: &Script<'_>,
     part: &ScriptPart<'_>,
     report: &mut Report,
-) -> Result<MemoryDisk, AllocError> {
+) -> Result<(MemoryDisk, bool), AllocError> {
     let Some((first, lines)) = part.lines.split_first() else {
         let Thawed { disk } = disk;
-        return Ok(disk);
+        return Ok((disk, true));
     };
     match begin(alloc, disk, &first.command)? {
         Beginning::Archive(stage) => {
             let compared = report.compare(alloc, script.name, first, "");
             let disk = share(rt, alloc, stage.into_archive(), script, lines, report)?;
             compared?;
-            Ok(disk)
+            Ok((disk, true))
         }
         Beginning::Refused(disk, why) => {
-            report.compare(alloc, script.name, first, why.as_str())?;
-            Ok(disk)
+            let is_played = refuse_part(alloc, script.name, why.as_str(), first, lines, report)?;
+            Ok((disk, is_played))
         }
     }
 }
@@ -248,14 +248,19 @@ fn play_archive(
     Ok((disk.into_disk().restart(), is_played))
 }
 
-/// A part that no threads share, on a disk: the disk afterwards, and whether the part is played.
-fn play_once(
+/// A part, on a disk: the disk afterwards, and whether the part is played.
+fn play_once<W: Wait>(
+    rt: &W,
     alloc: Global,
     disk: MemoryDisk,
     script: &Script<'_>,
     part: &ScriptPart<'_>,
     report: &mut Report,
 ) -> Result<(MemoryDisk, bool), AllocError> {
+    if part.is_shared {
+        let (disk, is_played) = with_shared(rt, alloc, given_up(disk), script, part, report)?;
+        return Ok((disk.restart(), is_played));
+    }
     let disk = disk_of(disk, part.failing);
     match part.lines.split_first() {
         Some((first, rest)) if first.command.begins() => {
@@ -277,14 +282,10 @@ pub(crate) fn play_part<W: Wait>(
     part: &ScriptPart<'_>,
     report: &mut Report,
 ) -> Result<MemoryDisk, AllocError> {
-    if part.is_shared {
-        let disk = with_shared(rt, alloc, given_up(disk), script, part, report)?;
-        return Ok(disk.restart());
-    }
-    let (disk, is_played) = play_once(alloc, disk, script, part, report)?;
+    let (disk, is_played) = play_once(rt, alloc, disk, script, part, report)?;
     if is_played {
         return Ok(disk);
     }
-    let (disk, _) = play_once(alloc, disk, script, part, report)?;
+    let (disk, _) = play_once(rt, alloc, disk, script, part, report)?;
     Ok(disk)
 }

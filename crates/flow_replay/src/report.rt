@@ -1,6 +1,6 @@
 //! What a run has found.
 
-use flow_scripts::Line;
+use flow_scripts::{Command, Line};
 use std::alloc::{AllocError, Global};
 
 /// How many characters of a line are reported.
@@ -8,6 +8,9 @@ const TOLD: usize = 100;
 
 /// What an answer ends by where memory is refused.
 const NO_MEMORY: &str = "11 OutOfMemory";
+
+/// What an answer ends by where readers of a shared archive weren't shown its messages.
+const UNSEEN: &str = " unseen";
 
 /// What a run has found: how much it has compared, and what differs.
 #[derive(Drop)]
@@ -58,9 +61,18 @@ impl Report {
         gives
     }
 
-    /// Whether a line is given once more after this answer: one that ends in a refusal of memory, which isn't wanted.
+    /// Whether a line is given once more after this answer: one that ends in a refusal of memory, or says that readers
+    /// don't see all, which isn't wanted.
     pub(crate) fn repeats(&mut self, line: &Line<'_>, came: &str) -> bool {
-        came.ends_with(NO_MEMORY) && !line.wanted.ends_with(NO_MEMORY) && self.gives_again()
+        let is_refused = came.ends_with(NO_MEMORY) && !line.wanted.ends_with(NO_MEMORY);
+        let is_late = matches!(line.command, Command::Refresh) && came != line.wanted;
+        (is_refused || is_late) && self.gives_again()
+    }
+
+    /// Whether readers are to be shown what they don't see yet: after the answer that is wanted, but for `unseen`. It
+    /// is counted as something that is given once more.
+    pub(crate) fn shows(&mut self, line: &Line<'_>, came: &str) -> bool {
+        came.strip_suffix(UNSEEN) == Some(line.wanted) && self.gives_again()
     }
 
     /// Counts an answer that is the one that is wanted.

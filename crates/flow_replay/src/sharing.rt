@@ -20,6 +20,9 @@ use std::sync::Wait;
 /// The most messages of a batch.
 const MOST_MESSAGES: usize = 64;
 
+/// How often an archive is shared: once, and once more where memory was refused.
+const TRIES: usize = 2;
+
 /// A reader, the snapshot that it holds, the width of narrow intervals, and the steps that whoever appends batches has.
 #[derive(Drop)]
 struct Reading<D: Disk, J: Naming> {
@@ -174,7 +177,8 @@ fn answer<D: Disk, J: Naming, W: Wait>(
     }
 }
 
-/// A shared archive answers lines.
+/// A shared archive answers lines. Where memory is refused, a line is given once more; where that left messages which
+/// readers don't see, they are shown these before the next line.
 fn answer_lines<D: Disk, J: Naming, W: Wait>(
     rt: &W,
     alloc: Global,
@@ -185,13 +189,20 @@ fn answer_lines<D: Disk, J: Naming, W: Wait>(
     report: &mut Report,
 ) -> Result<(), AllocError> {
     for line in lines {
-        let told = answer(rt, alloc, shared, reading, &line.command)?;
-        report.compare(alloc, name, line, told.as_str())?;
+        let mut told = answer(rt, alloc, shared, reading, &line.command)?;
+        if report.repeats(line, told.as_str()) {
+            told = answer(rt, alloc, shared, reading, &line.command)?;
+        }
+        if report.shows(line, told.as_str()) && shared.refresh(rt, alloc) {
+            report.agree();
+        } else {
+            report.compare(alloc, name, line, told.as_str())?;
+        }
     }
     Ok(())
 }
 
-/// A shared archive answers lines: its disk afterwards.
+/// An archive is shared, unless memory is refused for that, and answers lines: its disk afterwards.
 fn answer_all<D: Disk, J: Naming, W: Wait>(
     rt: &W,
     alloc: Global,
@@ -200,17 +211,15 @@ fn answer_all<D: Disk, J: Naming, W: Wait>(
     script: &Script<'_>,
     lines: &[Line<'_>],
     report: &mut Report,
-) -> Result<D, AllocError>
+) -> Result<Result<D, AllocError>, Archive<D>>
     requires book { opened.seen.book ≡ J.book }
     requires opening { shelf_of archive.state ≡ J.opening }
     requires honest { D.honest archive.disk ≡ J.honest }
 {
     let narrow = archive.width();
-    let Ok((shared, mut readers)) = start::<D, J, W>(alloc, archive, opened, 1) else {
-        return Err(AllocError);
-    };
+    let (shared, mut readers) = start::<D, J, W>(alloc, archive, opened, 1)?;
     let Some(reader) = readers.pop() else {
-        return Err(AllocError);
+        return Ok(Err(AllocError));
     };
     let mut reading: Reading<D, J> = Reading {
         reader,
@@ -218,12 +227,13 @@ fn answer_all<D: Disk, J: Naming, W: Wait>(
         narrow,
         steps: shared.steps(rt),
     };
-    answer_lines(rt, alloc, &shared, &mut reading, script.name, lines, report)?;
+    let answered = answer_lines(rt, alloc, &shared, &mut reading, script.name, lines, report);
     drop(reading);
-    Ok(shared.end(rt).into_disk())
+    let disk = shared.end(rt).into_disk();
+    Ok(answered.map(|()| disk))
 }
 
-/// An archive is shared, and answers lines: its disk afterwards.
+/// An archive is shared, once more where memory is refused for that, and answers lines: its disk afterwards.
 pub(crate) fn share<W: Wait>(
     rt: &W,
     alloc: Global,
@@ -232,5 +242,18 @@ pub(crate) fn share<W: Wait>(
     lines: &[Line<'_>],
     report: &mut Report,
 ) -> Result<MemoryDisk, AllocError> {
-    answer_all::<MemoryDisk, Brand, W>(rt, alloc, archive, Opened::new(), script, lines, report)
+    let mut archive = archive;
+    for _ in 0..TRIES {
+        let opened = Opened::new();
+        match answer_all::<MemoryDisk, Brand, W>(
+            rt, alloc, archive, opened, script, lines, report,
+        ) {
+            Ok(ended) => return ended,
+            Err(given) => archive = given,
+        }
+        if !report.gives_again() {
+            return Err(AllocError);
+        }
+    }
+    Err(AllocError)
 }

@@ -95,7 +95,10 @@ impl<D: Disk> Stage<D> {
     /// What a new snapshot answers.
     fn see(&mut self, alloc: Global, question: &Question) -> Result<String, AllocError> {
         let narrow = self.archive.width();
-        asked(alloc, &self.snapshot(alloc)?, narrow, question)
+        match self.snapshot(alloc) {
+            Ok(snapshot) => asked(alloc, &snapshot, narrow, question),
+            Err(_) => format!(in alloc; "{}", ArchiveError::OutOfMemory),
+        }
     }
 
     /// How many files are sealed, and how many are rolled; the counts of a snapshot, and all its totals.

@@ -1,9 +1,10 @@
 -- When the flows of a segment start.
-use Rattle.std.specs.Prelude.{◌≡◌, ℕ, ◌+◌, ◌%◌, ◌^◌, Bool, true, false, List, length, Option, Some, None, option_map}
+use Rattle.std.specs.Prelude.{◌≡◌, ℕ, ◌+◌, ◌%◌, ◌^◌, Bool, true, false, List, length, Option, Some, None, cond, option_map}
 use Rattle.flow_codec.specs.declared.losses.CaveatCounts.{CaveatCounts}
 use Rattle.flow_codec.specs.Caveats.{are_uncounted, elements_of}
 use Rattle.flow_codec.specs.Fault.{IsOctets}
 use Rattle.flow_codec.specs.Layout.{Layout}
+use Rattle.flow_codec.specs.Losses.{no_caveats}
 use Rattle.flow_codec.specs.Message.{in_fields, joined}
 use Rattle.flow_codec.specs.Raw.{Placed, RawMessage}
 use Rattle.flow_codec.specs.Replaced.{one_if}
@@ -39,6 +40,10 @@ caveats_where placed layout = record {
   uncounted = one_if (are_uncounted (elements_of layout.fields));
   sampled = one_if (elements_of layout.fields).rate;
 }
+
+-- what is counted before any message, where something is
+abbrev pub caveats_if : Bool → Option CaveatCounts
+caveats_if counting = cond counting (Some no_caveats) None
 
 -- Messages were read after the templates that a prefix restates, up to these templates, and the starts of their flows
 -- noted, where starts are noted.

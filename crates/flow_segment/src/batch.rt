@@ -13,14 +13,14 @@ use flow_measure::PartSpan;
 use indexmap::IndexMap;
 use std::alloc::{AllocError, Global};
 
-/// What was carried before a batch: the numbers, the Export Time, what its messages lost, and the templates, of which a
+/// What was carried before a batch: the numbers, the Export Time, what was counted, and the templates, of which a
 /// copy is made only where a message may define some. Until then those in force are those of before.
 #[derive(Drop)]
 pub(crate) struct Undo {
     pub(crate) templates: Option<Templates>,
     pub(crate) due: IndexMap<u32, u32>,
     pub(crate) time: u32,
-    pub(crate) losses: Losses,
+    pub(crate) losses: Option<Losses>,
 }
 
 /// Keeps a copy of the templates before a message that may define some, if none is kept.

@@ -1,9 +1,8 @@
 //! What a segment passes to the next one.
 
-ghost use Rattle.std.specs.Prelude.{◌≡◌, ◌⊎◌, ◌<◌, ◌^◌, nat_eq, OnOk, OnErr, IfOk, IfErr};
+ghost use Rattle.std.specs.Prelude.{◌≡◌, ◌⊎◌, ◌<◌, ◌^◌, nat_eq, option_map, None, OnOk, OnErr, IfOk, IfErr};
 ghost use Rattle.indexmap.specs.IndexMap.{spare};
 ghost use Rattle.flow_codec.specs.Fault.{IsFault};
-ghost use Rattle.flow_codec.specs.Losses.{no_caveats};
 ghost use Rattle.flow_codec.specs.Message.{IsAccepted};
 ghost use Rattle.flow_codec.specs.Raw.{under};
 ghost use Rattle.flow_measure.specs.Caveats.{with_caveats};
@@ -11,7 +10,7 @@ ghost use Rattle.flow_measure.specs.History.{Accepted};
 ghost use Rattle.flow_segment.specs.Batch.{restored};
 ghost use Rattle.flow_segment.specs.Carry.{no_carry, prefix_of, AreNext, IsCarry, IsCounted, IsTaken};
 ghost use Rattle.flow_segment.specs.Carry.{IsTakenAs, TakesOnly};
-ghost use Rattle.flow_segment.specs.Spans.{noted};
+ghost use Rattle.flow_segment.specs.Spans.{caveats_if, noted};
 
 use crate::batch::Undo;
 use crate::sinks::Noting;
@@ -32,8 +31,9 @@ pub struct Carry {
     due: IndexMap<u32, u32>,
     time: u32,
     /// What the messages that were taken in since the last `replace_losses` show of records that aren't read, or are
-    /// summed otherwise than their exporter may mean. It is passed on to nobody.
-    losses: Losses,
+    /// summed otherwise than their exporter may mean; none before the first: an opening counts nothing. It is passed on
+    /// to nobody.
+    losses: Option<Losses>,
 }
 
 impl Model for Carry {
@@ -55,7 +55,7 @@ impl Carry {
             templates: Templates::new(alloc),
             due: IndexMap::new(alloc),
             time: 0,
-            losses: Losses::none(),
+            losses: None,
         }
     }
 
@@ -97,16 +97,13 @@ impl Carry {
         ensures unnoted { IfErr result (λ _. span.new ≡ span.old) }
     {
         self.due.reserve(1)?;
-        let (walked, count, caveats) = counted(&mut self.templates, alloc, octets, span)?;
+        let counting = self.losses.is_some();
+        let (walked, count, caveats) = counted(&mut self.templates, alloc, octets, span, counting)?;
         let header = walked.header;
-        let losses = Losses {
-            caveats,
-            ..Losses::of(&walked, self.due.get(&header.domain).copied())
-        };
+        self.losses = losses_with(self.losses, &walked, &self.due, caveats);
         let due = header.sequence.wrapping_add(count);
         put_due(&mut self.due, &self.templates, header.domain, due);
         self.time = header.time;
-        self.losses = self.losses.and(losses);
         Ok(is_none(count))
     }
 
@@ -133,10 +130,12 @@ impl Carry {
 
     /// What the messages that were taken in show of records that aren't read, or are summed otherwise, counted from what
     /// was put here last; from now on they are counted from these on. Those of a batch that was refused show nothing.
+    /// Before its first call nothing is counted, and it answers none.
     pub fn replace_losses(&mut self, losses: Losses) -> Losses
         ensures { self.new ≡ self.old }
     {
-        mem::replace(&mut self.losses, losses)
+        let counted = mem::replace(&mut self.losses, Some(losses));
+        counted.unwrap_or(Losses::none())
     }
 
     /// A copy of the templates.
@@ -176,14 +175,44 @@ impl Carry {
     }
 }
 
-/// Takes a message's templates in, counts its data records modulo 2^32, and those whose flows are summed otherwise than
-/// their exporter may mean, and notes when its flows start, where a span is given.
+/// What is counted before any message, where something is.
+fn no_caveats_if(counting: bool) -> Option<CaveatCounts>
+    ensures { result ≡ caveats_if counting }
+{
+    if counting {
+        Some(CaveatCounts::none())
+    } else {
+        None
+    }
+}
+
+/// What was counted, with what a message shows more, before which the next Sequence Numbers were these; none where
+/// nothing is counted.
+fn losses_with(
+    losses: Option<Losses>,
+    walked: &Walked,
+    due: &IndexMap<u32, u32>,
+    caveats: Option<CaveatCounts>,
+) -> Option<Losses>
+    ensures { losses ≡ None → result ≡ None }
+{
+    let so_far = losses?;
+    let more = Losses {
+        caveats: caveats?,
+        ..Losses::of(walked, due.get(&walked.header.domain).copied())
+    };
+    Some(so_far.and(more))
+}
+
+/// Takes a message's templates in, counts its data records modulo 2^32, and notes when its flows start, where a span is
+/// given; where it is `counting`, it counts those that are summed otherwise than their exporter may mean.
 fn counted(
     templates: &mut Templates,
     alloc: Global,
     octets: &[u8],
     span: &mut Option<PartSpan>,
-) -> Result<(Walked, u32, CaveatCounts), MessageError>
+    counting: bool,
+) -> Result<(Walked, u32, Option<CaveatCounts>), MessageError>
     ensures found { IfOk result (λ x. IsCounted octets.now templates.old templates.new x.0.header x.1) }
     ensures only { (a : Accepted) → IsAccepted octets.now templates.old a.message a.after
         → IfErr result (λ e. e ≡ MessageError.OutOfMemory) }
@@ -193,12 +222,12 @@ fn counted(
         → span.new ≡ noted a.message span.old) }
     ensures unnoted { OnErr result (span.new ≡ span.old) }
     ensures caveats { IfOk result (λ x. (a : Accepted) → IsAccepted octets.now templates.old a.message a.after
-        → x.2 ≡ with_caveats no_caveats (under a.message.header a.message.records)) }
+        → x.2 ≡ option_map (λ c. with_caveats c (under a.message.header a.message.records)) (caveats_if counting)) }
 {
     let mut noting = Noting {
         records: 0,
         span: *span,
-        caveats: CaveatCounts::none(),
+        caveats: no_caveats_if(counting),
     };
     match walk_sets(templates, alloc, octets, &mut noting) {
         Ok(walked) => {

@@ -111,16 +111,16 @@ impl RecordSink for Chosen {
     }
 }
 
-/// Counts data records, and those whose flows are summed otherwise than their exporter may mean, and notes when the
-/// flows start, where it is given a span.
+/// Counts data records, notes when their flows start, where it is given a span, and counts the flows that are summed
+/// otherwise than their exporter may mean, where it is given counts.
 #[derive(Drop)]
 pub struct Noting {
     /// How many records were taken, modulo 2^32.
     pub records: u32,
     /// When their flows start, with those of before; none where starts aren't noted.
     pub span: Option<PartSpan>,
-    /// Flows that are summed otherwise.
-    pub caveats: CaveatCounts,
+    /// Flows that are summed otherwise, with those of before; none where they aren't counted.
+    pub caveats: Option<CaveatCounts>,
 }
 
 /// One where this holds.
@@ -141,15 +141,15 @@ fn caveats_of(definition: &Definition, placed: bool) -> CaveatCounts
     }
 }
 
-/// These counts with those of the flow of one record more, which mostly has nothing to count.
+/// Counts what is to be counted of one flow more, where it is counted.
 #[inline(always)]
-fn with_flow(caveats: CaveatCounts, definition: &Definition, placed: bool) -> CaveatCounts
-    ensures { result ≡ both_caveats caveats (caveats_where placed definition.now) }
+fn count_flow(caveats: &mut Option<CaveatCounts>, definition: &Definition, placed: bool)
+    ensures { caveats.new ≡ option_map (λ c. both_caveats c (caveats_where placed definition.now)) caveats.old }
 {
-    if placed || definition.is_uncounted() || definition.is_sampled() {
-        return caveats.and(caveats_of(definition, placed));
-    }
-    caveats
+    let Some(counts) = *caveats else {
+        return;
+    };
+    *caveats = Some(counts.and(caveats_of(definition, placed)));
 }
 
 /// With one start more, where starts are noted.
@@ -168,7 +168,7 @@ impl RecordSink for Noting {
     type Kept = ();
 
     ghost holds = { λ start taken now. HasNoted start.records start.span taken now.records now.span
-        × (now.caveats ≡ with_caveats start.caveats taken) };
+        × (now.caveats ≡ option_map (λ c. with_caveats c taken) start.caveats) };
 
     ghost refuses = { λ _ _ _ _. ⊥ };
 
@@ -186,7 +186,7 @@ impl RecordSink for Noting {
             return Ok(());
         }
         let own = own_start_of(definition, octets);
-        self.caveats = with_flow(self.caveats, definition, own.is_none());
+        count_flow(&mut self.caveats, definition, own.is_none());
         self.span = with_start(self.span, own.unwrap_or(header.time));
         Ok(())
     }

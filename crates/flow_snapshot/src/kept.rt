@@ -218,7 +218,7 @@ fn is_noted(alloc: Global, templates: &mut Templates, octets: &[u8], span: &mut 
     let mut noting = Noting {
         records: 0,
         span: Some(*span),
-        caveats: CaveatCounts::none(),
+        caveats: None,
     };
     match walk_message(templates, alloc, octets, &mut noting) {
         Ok(_) => match noting.span {

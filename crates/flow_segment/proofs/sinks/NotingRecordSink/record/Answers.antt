@@ -21,7 +21,7 @@ returns-then-options-clause-taken c = λ start taken h.
     let kind = sym c.options.ensures ∙ c.if-options.true in
     let none = none_more taken c.args.header.now c.args._id c.args.definition.now c.args.octets.now kind in (
       same_more start.records start.span taken x c.args.self.now.records _ refl c.args.self.now.span none h.0,
-      caveats.option_more start.caveats taken c.args.header.now c.args._id c.args.definition.now c.args.octets.now kind
+      caveats.option_more taken c.args.header.now c.args._id c.args.definition.now c.args.octets.now kind start.caveats
           c.args.self.now.caveats h.1,
     )
 
@@ -40,8 +40,8 @@ returns-clause-taken c = λ start taken h.
     ∙ ap (λ (n : ℕ). option_map (λ (s : PartSpan). with_start n s) c.args.self.now.span) start_is_own in (
       start_more start.records start.span taken x c.args.self.now.records _ refl f c.args.self.now.span
           c.with_start-self.result more now h.0,
-      caveats.flow_more start.caveats taken c.args.header.now c.args._id c.args.definition.now c.args.octets.now kind
+      caveats.flow_more taken c.args.header.now c.args._id c.args.definition.now c.args.octets.now kind
           c.is_none.result (caveats.none_of c.own_start_of-own.result c.is_none.result c.is_none.ensures
           ∙ ap (λ (o : Option ℕ). is_none o) c.own_start_of-own.ensures)
-          c.args.self.now.caveats c.with_flow-self.result c.with_flow-self.ensures h.1,
+          start.caveats c.args.self.now.caveats c.count_flow.new.caveats c.count_flow.ensures h.1,
     )
