@@ -17,7 +17,7 @@ cc -O2 "$top/bench/walk.c" -o "$walk"
 cc -O2 "$top/bench/bare_walk.c" -o "$bare"
 "$walk" 300 <"$file" >"$top/built/walk.out"
 "$program" measure 300 <"$file" | cmp - "$top/built/walk.out" && echo "the same lines as the C walk"
-"$bare" 300 <"$file" | cmp - "$top/built/walk.out" && echo "the same lines of the bare C walk"
+"$bare" 300 <"$file" | cmp - "$top/built/walk.out" && echo "the same lines as the bare C walk"
 fixbuf=
 if pkg-config --exists libfixbuf 2>/dev/null; then
     fixbuf=$top/built/fixbuf_measure

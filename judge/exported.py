@@ -1,5 +1,5 @@
 #!/usr/bin/env python3
-"""exported.py PROGRAM [--archives N]: makes archives of random messages, of several Observation Domains whose templates
+"""exported.py PROGRAM [--archives N] [--readers]: makes archives of random messages, of several Observation Domains whose templates
 are defined, defined otherwise, withdrawn and restated, in small segments, some of which are rolled, and exports spans
 of messages of each. What comes must be, to the octet, the templates that an independent reader of archives
 (examples/read_archive.py) has in force before the first message, restated, and then the messages as they were fed. It
@@ -11,8 +11,8 @@ reader, and between the first and the last of these those with Sets of templates
 the first. 52 must come exactly where an interval of the sums of rolled messages, which are merged in the end, meets the
 span.
 
-Other readers of IPFIX are given some of the Files: tshark, libfixbuf's ipfixDump, and python3-ipfix, where they are
-installed; they must count as many messages as the independent reader, and find nothing malformed.
+With --readers, other readers of IPFIX are given the Files too: tshark, libfixbuf's ipfixDump, and python3-ipfix, as many
+of them as are installed; they must find as many messages as the independent reader, and nothing malformed.
 
 It prints each difference, and ends with 'N cases of exports: M differ', where a case is an export; its status is 0
 where M is 0, else 1."""
@@ -31,6 +31,10 @@ sys.path.insert(0, os.path.join(os.path.dirname(os.path.abspath(__file__)), ".."
 import read_archive  # noqa: E402
 
 SECONDS, WIDTH, WIDE, LEAST = 120, 300, 86_400, 65_535
+
+# How long another reader may take.
+PATIENCE = 20
+
 HEADER = 16
 ALL = ("0", "4294967296")
 TIME = 1_700_000_000
@@ -125,15 +129,23 @@ def meets(flows, width, span):
     return any(max(span[0], start) < min(span[1], start + width) for start in starts)
 
 
-def has_templates(message):
-    """Whether a message has a Template Set or an Options Template Set."""
-    at = 16
+def sets_of(message):
+    """The Set IDs of a message."""
+    at = HEADER
     while at < len(message):
         number, length = struct.unpack(">HH", message[at:at + 4])
-        if number in (2, 3):
-            return True
+        yield number
         at += length
-    return False
+
+
+def has_templates(message):
+    """Whether a message has a Template Set or an Options Template Set."""
+    return any(number in (2, 3) for number in sets_of(message))
+
+
+def has_sets(message):
+    """Whether a message has a Set other than those whose IDs are reserved, which collectors pass over."""
+    return any(number in (2, 3) or number >= 256 for number in sets_of(message))
 
 
 def moment(second):
@@ -169,13 +181,18 @@ def by_tshark(path):
 
 
 def by_fixbuf(path):
-    """How many messages libfixbuf's ipfixDump finds, or what it says. It prints none of those that have no Set."""
-    got = subprocess.run(["ipfixDump", "--in", path], capture_output=True, text=True, timeout=SECONDS)
+    """How many messages libfixbuf's ipfixDump finds, or what it says; nothing where it comes to no end, which is
+    printed. It prints none of those that it reads no Set of, so these count as found."""
+    try:
+        got = subprocess.run(["ipfixDump", "--in", path], capture_output=True, text=True, timeout=PATIENCE)
+    except subprocess.TimeoutExpired:
+        print("ipfixDump comes to no end at %d octets" % os.path.getsize(path))
+        return None
     if got.returncode:
         return got.stderr
     with open(path, "rb") as file:
-        bare = sum(len(message) == HEADER for message in messages_of(file.read()))
-    return bare + len(re.findall("^--- Message Header ---$", got.stdout, re.M))
+        unprinted = sum(not has_sets(message) for message in messages_of(file.read()))
+    return unprinted + len(re.findall("^--- Message Header ---$", got.stdout, re.M))
 
 
 def by_python(path):
@@ -207,8 +224,8 @@ def readers():
 # ---- Trials ----
 
 class Trials:
-    def __init__(self, program):
-        self.program, self.cases, self.differ, self.readers = program, 0, 0, readers()
+    def __init__(self, program, others):
+        self.program, self.cases, self.differ, self.readers = program, 0, 0, others
 
     def run(self, *words, given=b""):
         return subprocess.run([self.program, *map(str, words)], input=given, capture_output=True, timeout=SECONDS)
@@ -319,8 +336,12 @@ def main():
     words = argparse.ArgumentParser(description=__doc__, formatter_class=argparse.RawDescriptionHelpFormatter)
     words.add_argument("program")
     words.add_argument("--archives", type=int, default=12)
+    words.add_argument("--readers", action="store_true")
     given = words.parse_args()
-    trials = Trials(os.path.abspath(given.program))
+    others = readers() if given.readers else []
+    if given.readers:
+        print("other readers: %s" % (", ".join(name for name, _ in others) or "none is installed"))
+    trials = Trials(os.path.abspath(given.program), others)
     for seed in range(1, given.archives + 1):
         with tempfile.TemporaryDirectory() as folder:
             trials.archive(seed, folder)

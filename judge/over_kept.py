@@ -11,9 +11,15 @@ over_kept.py --times CRATE [FUNCTION..]: checks all of it so, or these functions
 how many processor seconds each took, the longest first, counted from the end of the one before it to its own; those of
 the first to end, which is marked, are also what loading took. Stopped by Ctrl-C, it prints those of what has ended.
 
+over_kept.py --parts CRATE [FUNCTION..]: checks the same, and prints how many processor seconds each part of a function
+took, the longest first: its `body` as a system of steps, which grows with its exits and with the large values that it
+owns at each; its goals found by `search` and those answered by `hand`; and `other`. Where FUNCTIONs are named, goals
+come one by one. What each part took in all comes last, and what all else did.
+
 It is for whoever writes proofs, and is no proof of a crate: a library that was proved of another text than this
 checkout has is taken too. The first form prints all but what is proved, and ends with the prover's status. It reads
 what the kit keeps (13f) as it is laid out there."""
+import collections
 import json
 import os
 import re
@@ -119,8 +125,47 @@ def timed(crates, crate, only):
     return ran.returncode
 
 
+# What the prover's own words for parts of a function are called here, and how it names the part that it is at.
+PARTS = {"Lts": "body", "Proof": "search", "Answers": "hand"}
+AT = re.compile(r"antt: cache: Rattle-(\S+?)-proofs\.(\S+)\.(\w+): (?:(\S+): not reused)?")
+
+
+def part_of(crate, line):
+    """The function, part and goal that a line of the prover says it is at; none of another crate, or no function."""
+    at = AT.match(line)
+    if not at or at[1] != crate:
+        return None
+    return at[2].replace(".", "::"), PARTS.get(at[3], "other"), at[4] or ""
+
+
+def parted(crates, crate, only):
+    """Checks a crate, or some functions of it, and prints what each part of a function took. The prover says which part
+    it is at as it begins it, and which goal where it may keep goals; none are kept here."""
+    took, besides, before, at = collections.Counter(), 0.0, 0.0, None
+    with tempfile.TemporaryDirectory() as folder:
+        keeps = ["--incremental", folder] if only else []
+        with subprocess.Popen([*words(crates, crate), *only, *keeps], cwd="crates/" + crate, stdout=subprocess.PIPE,
+                              stderr=subprocess.STDOUT, text=True, env={**os.environ, "ANTT_CACHE_DEBUG": "1"}) as ran:
+            for line in ran.stdout:
+                if line.startswith("antt: cache: "):
+                    now = spent(ran.pid)
+                    if at:
+                        took[at] += now - before
+                    else:
+                        besides += now - before
+                    before, at = now, part_of(crate, line)
+                else:
+                    print(line, end="")
+    for (function, part, goal), seconds in took.most_common(60):
+        print("%7.1f %-6s %s %s" % (seconds, part, function, goal))
+    for part in (*PARTS.values(), "other"):
+        print("%7.1f %s in all" % (sum(it for (_, own, _), it in took.items() if own == part), part))
+    print("%7.1f besides: loading, definitions, lemmas; %.1f in all" % (besides, before))
+    return ran.returncode
+
+
 def main():
-    form = sys.argv[1] if sys.argv[1:2] in (["--edits"], ["--times"]) else ""
+    form = sys.argv[1] if sys.argv[1:2] in (["--edits"], ["--times"], ["--parts"]) else ""
     given = sys.argv[2:] if form else sys.argv[1:]
     if not given or given[0].startswith("-"):
         print(__doc__)
@@ -134,8 +179,8 @@ def main():
     if form == "--edits":
         return edits_tried(crates, crate, rest)
     only = [word for it in rest if not it.startswith("-") for word in ("--only", it)]
-    if form == "--times":
-        return timed(crates, crate, only)
+    if form in ("--times", "--parts"):
+        return (timed if form == "--times" else parted)(crates, crate, only)
     flags = [it for it in rest if it.startswith("-")]
     ran = subprocess.run([*words(crates, crate), *only, *flags], cwd="crates/" + crate, stdout=subprocess.PIPE,
                          stderr=subprocess.STDOUT, text=True)

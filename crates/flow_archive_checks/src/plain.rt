@@ -52,9 +52,13 @@ fn has_two(alloc: Global, archive: &PlainArchive) -> bool {
     }
 }
 
+/// Whether an archive takes both in, and has their totals.
+fn is_so(alloc: Global) -> bool {
+    let mut archive = PlainArchive::new(alloc, 300);
+    is_taken(&mut archive) && has_two(alloc, &archive)
+}
+
 #[test]
 fn plain_archive(rt: HostRuntime) {
-    let mut archive = PlainArchive::new(rt.alloc(), 300);
-    assert!(rt; is_taken(&mut archive));
-    assert!(rt; has_two(rt.alloc(), &archive));
+    assert!(rt; is_so(rt.alloc()));
 }

@@ -2,7 +2,7 @@
 
 use crate::lies::memory;
 use crate::segments::frozen;
-use flow_disk::{Faults, SealedFile};
+use flow_disk::{DiskError, Faults, SealedFile};
 use flow_measure::{Flow, Rows, SumError};
 use flow_rolled::{RolledError, RolledPart, RowReader, decode_rows, encode_rows};
 use std::alloc::Global;
@@ -85,18 +85,32 @@ fn is_read<S: SealedFile>(alloc: Global, file: S) -> bool {
         && count_next(alloc, &mut reader).is_none()
 }
 
+/// Whether the row has the file, and no rows have none.
+fn are_written(alloc: Global) -> Result<bool, SumError> {
+    let rows = one_row(alloc)?;
+    let is_written = is_file_of(alloc, &rows, &ONE_ROW);
+    Ok(is_written && is_file_of(alloc, &Rows::new(alloc, 300), &[]))
+}
+
+/// Whether the file is refused where an octet is another one, and where it is cut.
+fn are_refused(alloc: Global) -> bool {
+    let mut changed = ONE_ROW;
+    changed[135] = 0xA0;
+    is_refused(alloc, &changed, 100) && is_refused(alloc, &ONE_ROW[..160], 100)
+}
+
+/// Whether it is read in memory.
+fn is_read_in_memory(alloc: Global) -> Result<bool, DiskError> {
+    let mut disk = memory(alloc)?;
+    let file = frozen(&mut disk, &ONE_ROW)?;
+    Ok(is_read(alloc, file))
+}
+
 #[test]
 fn a_rolled_file(rt: HostRuntime) -> Result<(), Fail> {
     let alloc = rt.alloc();
-    let rows = one_row(alloc)?;
-    assert!(rt; is_file_of(alloc, &rows, &ONE_ROW));
-    assert!(rt; is_file_of(alloc, &Rows::new(alloc, 300), &[]));
-    let mut changed = ONE_ROW;
-    changed[135] = 0xA0;
-    assert!(rt; is_refused(alloc, &changed, 100));
-    assert!(rt; is_refused(alloc, &ONE_ROW[..160], 100));
-    let mut disk = memory(alloc)?;
-    let file = frozen(&mut disk, &ONE_ROW)?;
-    assert!(rt; is_read(alloc, file));
+    assert!(rt; are_written(alloc)?);
+    assert!(rt; are_refused(alloc));
+    assert!(rt; is_read_in_memory(alloc)?);
     Ok(())
 }

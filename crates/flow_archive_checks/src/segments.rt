@@ -80,10 +80,15 @@ fn is_segment<S: SealedFile>(alloc: Global, file: S) -> bool {
     one_by_one(alloc, &part) && at_once(alloc, &part) && has_flow(alloc, &part)
 }
 
+/// Whether it is one in memory.
+fn is_in_memory(alloc: Global) -> Result<bool, DiskError> {
+    let mut disk = memory(alloc)?;
+    let file = frozen(&mut disk, &PLAIN)?;
+    Ok(is_segment(alloc, file))
+}
+
 #[test]
 fn a_segment(rt: HostRuntime) -> Result<(), Fail> {
-    let mut disk = memory(rt.alloc())?;
-    let file = frozen(&mut disk, &PLAIN)?;
-    assert!(rt; is_segment(rt.alloc(), file));
+    assert!(rt; is_in_memory(rt.alloc())?);
     Ok(())
 }

@@ -162,27 +162,64 @@ fn sums(alloc: Global, events: &[Event], call: u64, to: u64) -> Option<(u64, u12
     }
 }
 
+/// The first call at which a stop leaves what isn't opened with all that was acknowledged.
+fn not_opened_at(alloc: Global, events: &[Event]) -> Option<u64>
+    requires { All IsEvent events.now }
+{
+    for call in CREATING..ALL_CALLS {
+        for choice in [Choice::Kept, Choice::Settled, Choice::Filled(&[0x0A])] {
+            if !opens(alloc, events, call, choice) {
+                return Some(call);
+            }
+        }
+    }
+    None
+}
+
+/// Whether both messages are there after a stop at the last call, and none after one at the first.
+fn are_counted(alloc: Global, events: &[Event]) -> bool
+    requires { All IsEvent events.now }
+{
+    counts(alloc, events, ALL_CALLS, Choice::Settled) == Some((2, 2))
+        && counts(alloc, events, CREATING, Choice::Settled) == Some((0, 0))
+}
+
+/// Whether the sums are those of both flows after a stop at the last call, of none before they start, and of none after
+/// a stop at the first.
+fn are_summed(alloc: Global, events: &[Event]) -> bool
+    requires { All IsEvent events.now }
+{
+    sums(alloc, events, ALL_CALLS, 1 << 32) == Some((2, 3_000, 20))
+        && sums(alloc, events, ALL_CALLS, 1_699_999_800) == Some((0, 0, 0))
+        && sums(alloc, events, CREATING, 1 << 32) == Some((0, 0, 0))
+}
+
+/// Which of these isn't so.
+fn wrong(alloc: Global, events: &[Event]) -> Option<(&'static str, u64)>
+    requires { All IsEvent events.now }
+{
+    if let Some(call) = not_opened_at(alloc, events) {
+        return Some(("opened", call));
+    }
+    if !are_counted(alloc, events) {
+        return Some(("counted", 0));
+    }
+    if !is_no_stop(alloc, events) {
+        return Some(("no stop", 0));
+    }
+    if last_of_all(alloc, events) != Some(2) {
+        return Some(("acknowledged", 0));
+    }
+    if !are_summed(alloc, events) {
+        return Some(("summed", 0));
+    }
+    None
+}
+
 #[test]
 fn stops(rt: HostRuntime) -> Result<(), Fail> {
     let alloc = rt.alloc();
     let events = events(alloc)?;
-    let events = events.as_slice();
-    for call in CREATING..ALL_CALLS {
-        for choice in [Choice::Kept, Choice::Settled, Choice::Filled(&[0x0A])] {
-            assert!(rt; opens(alloc, events, call, choice), "at {call}");
-        }
-    }
-    for (call, found) in [(ALL_CALLS, (2, 2)), (CREATING, (0, 0))] {
-        assert_eq!(rt; counts(alloc, events, call, Choice::Settled), Some(found));
-    }
-    assert!(rt; is_no_stop(alloc, events));
-    assert_eq!(rt; last_of_all(alloc, events), Some(2));
-    for (call, to, found) in [
-        (ALL_CALLS, 1 << 32, (2, 3_000, 20)),
-        (CREATING, 1 << 32, (0, 0, 0)),
-        (ALL_CALLS, 1_699_999_800, (0, 0, 0)),
-    ] {
-        assert_eq!(rt; sums(alloc, events, call, to), Some(found));
-    }
+    assert_eq!(rt; wrong(alloc, events.as_slice()), None);
     Ok(())
 }

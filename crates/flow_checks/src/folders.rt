@@ -414,17 +414,30 @@ fn two_pieces(alloc: Global) -> Result<Vec<u8>, AllocError> {
     Ok(octets)
 }
 
+/// The first folder that isn't as it says: what is shown, and which of its parts and steps isn't.
+fn wrong_folder<'a>(rt: &HostRuntime, folders: &[Folder<'a>]) -> Option<(&'a str, (usize, usize))> {
+    for (what, room, parts) in folders {
+        if let Some(place) = wrong_part(rt, *room, parts) {
+            return Some((*what, place));
+        }
+    }
+    None
+}
+
+/// Which part and step isn't as it says, of a folder with octets of two pieces.
+fn wrong_piece(rt: &HostRuntime, long: &[u8]) -> Option<(usize, usize)> {
+    let parts = [
+        Part::Aside(Put(FILE, long)),
+        Part::Disk(&PIECES, End::Dropped),
+        Part::Aside(Has(FILE, long)),
+    ];
+    wrong_part(rt, 10_000, &parts)
+}
+
 #[test]
 fn folders(rt: HostRuntime) -> Result<(), Fail> {
-    for (what, room, parts) in FOLDERS {
-        assert_eq!(rt; wrong_part(&rt, room, parts), None, "{what}");
-    }
+    assert_eq!(rt; wrong_folder(&rt, &FOLDERS), None);
     let long = two_pieces(rt.alloc())?;
-    let parts = [
-        Part::Aside(Put(FILE, &long)),
-        Part::Disk(&PIECES, End::Dropped),
-        Part::Aside(Has(FILE, &long)),
-    ];
-    assert_eq!(rt; wrong_part(&rt, 10_000, &parts), None, "two pieces");
+    assert_eq!(rt; wrong_piece(&rt, &long), None);
     Ok(())
 }

@@ -100,7 +100,36 @@ fn is_copied(alloc: Global, templates: &Templates) -> Result<bool, AllocError> {
     is_defined(alloc, &templates.try_copy()?)
 }
 
-/// Whether a File has these messages, each a place and a length.
+/// Whether the message is read: its flow, its template, and this in a copy.
+fn are_read(alloc: Global, templates: &mut Templates) -> Result<[bool; 3], AllocError> {
+    let flow = match flows(alloc, templates) {
+        Some(found) => found.as_slice() == [THE_FLOW].as_slice(),
+        None => false,
+    };
+    Ok([
+        flow,
+        is_defined(alloc, templates)?,
+        is_copied(alloc, templates)?,
+    ])
+}
+
+/// The same, where no template is in force before.
+fn are_read_first(alloc: Global) -> Result<[bool; 3], AllocError> {
+    let mut templates = Templates::new(alloc);
+    are_read(alloc, &mut templates)
+}
+
+/// A File of the message twice.
+fn two_messages(alloc: Global) -> Result<Vec<u8>, AllocError> {
+    let mut file = Vec::from_slice(alloc, FLOW.as_slice())?;
+    file.extend_from_slice(FLOW.as_slice())?;
+    Ok(file)
+}
+
+/// The messages of that File, each a place and a length.
+const SPANS: [Span; 2] = [Span { at: 0, length: 57 }, Span { at: 57, length: 57 }];
+
+/// Whether a File has these messages.
 fn has_spans(alloc: Global, file: &[u8], wanted: &[Span]) -> Result<bool, FileError> {
     Ok(split_file(alloc, file)?.as_slice() == wanted)
 }
@@ -108,15 +137,9 @@ fn has_spans(alloc: Global, file: &[u8], wanted: &[Span]) -> Result<bool, FileEr
 #[test]
 fn messages(rt: HostRuntime) -> Result<(), Fail> {
     let alloc = rt.alloc();
-    let mut templates = Templates::new(alloc);
-    let found = flows(alloc, &mut templates).ok_or("flows")?;
-    assert!(rt; found.as_slice() == [THE_FLOW].as_slice());
-    assert!(rt; is_defined(alloc, &templates)?);
-    assert!(rt; is_copied(alloc, &templates)?);
-    let mut file = Vec::from_slice(alloc, FLOW.as_slice())?;
-    file.extend_from_slice(FLOW.as_slice())?;
-    let spans = [Span { at: 0, length: 57 }, Span { at: 57, length: 57 }];
-    assert!(rt; has_spans(alloc, file.as_slice(), spans.as_slice())?);
+    assert_eq!(rt; are_read_first(alloc)?, [true; 3]);
+    let file = two_messages(alloc)?;
+    assert!(rt; has_spans(alloc, file.as_slice(), SPANS.as_slice())?);
     Ok(())
 }
 

@@ -8,7 +8,6 @@ use Rattle.std.proofs.KnownBytes.{Appends-trans}
 use Rattle.flow_codec.specs.Message.{joined}
 use Rattle.flow_disk.specs.Cause.{HasCause}
 use Rattle.flow_model.specs.Shelf.{kept_of, Shelf}
-use Rattle.flow_refusals.specs.declared.read_refusal.ReadRefusal.TheVariants as query
 use Rattle.flow_report.specs.Writing.{AppendsFront}
 use Rattle.flow_segment.specs.Carry.{prefix_of, Carry, IsCarry}
 use Rattle.flow_snapshot.specs.Found.{kept_by_file}
@@ -29,14 +28,14 @@ some_of (Ok x) P Q each is = tt
 some_of (Err e) P Q each is = each is e
 
 -- a refusal that is no failed read, where none was counted
-pub quiet_cause : {X : Type 0} (old new : ℕ) (r : Result X ExportRefusal) → new ≡ old
-    → IfErr r (λ e. e ≢ refusal.Query query.Fault) → HasCause (refusal.Query query.Fault) old new r
-quiet_cause old new (Ok x) same quiet =
+pub quiet_cause : {X E : Type 0} (fault : E) (old new : ℕ) (r : Result X E) → new ≡ old → IfErr r (λ e. e ≢ fault)
+    → HasCause fault old new r
+quiet_cause fault old new (Ok x) same quiet =
     record { later = omega (arith, same); done = same; risen = λ is. absurd cc; other = tt }
-quiet_cause old new (Err e) same quiet = record {
+quiet_cause fault old new (Err e) same quiet = record {
   later = omega (arith, same);
   done = tt;
-  risen = λ is. absurd (quiet (let this : e ≡ refusal.Query query.Fault = cc in this));
+  risen = λ is. absurd (quiet (let this : e ≡ fault = cc in this));
   other = λ _. same;
 }
 

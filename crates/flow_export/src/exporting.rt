@@ -219,6 +219,35 @@ fn write_kept<S: SealedFile, W: Write>(
     Ok(())
 }
 
+/// Writes the messages that restate what is passed on to the kept message after so many others, which is given, and
+/// then, at most so many, the messages from this one on, as they are.
+fn write_after<S: SealedFile, W: Write>(
+    alloc: Global,
+    snapshot: &Snapshot<S>,
+    carry: &Carry,
+    skip: u64,
+    most: u64,
+    output: &mut W,
+    faults: &mut Faults<S>,
+) -> Result<(), ExportRefusal>
+    requires { IsTrue snapshot.now.honest → IsCarryBefore (kept_by_file snapshot.now.shelf) skip carry.now }
+    ensures written { OnOk result (Writes (IsExport (asked_count skip most (length (kept_of snapshot.now.shelf))))
+        (W.contents output.old) (W.contents output.new)) }
+    ensures some { IfErr result (WritesUpTo (IsExport (asked_count skip most (length (kept_of snapshot.now.shelf))))
+        (W.contents output.old) (W.contents output.new)) }
+    ensures exact { IsTrue snapshot.now.honest → OnOk result
+        (Writes (IsExportOf snapshot.now.shelf skip most) (W.contents output.old) (W.contents output.new)) }
+    ensures cut { IsTrue snapshot.now.honest → IfErr result
+        (WritesUpTo (IsExportOf snapshot.now.shelf skip most) (W.contents output.old) (W.contents output.new)) }
+    ensures blameless { IsTrue snapshot.now.honest → (v : View) → IsViewOf snapshot.now.shelf v
+        → IfErr result IsBlameless }
+    ensures cause { HasCause (refusal.Query ReadRefusal.Fault) faults.old faults.new result }
+{
+    let patience = &mut Patience::new();
+    write_restated(alloc, carry, output, patience)?;
+    write_kept(alloc, snapshot, skip, most, output, patience, faults)
+}
+
 /// Writes the messages that restate what is passed on to the kept message after so many others, and then, at most so
 /// many, the messages from this one on, as they are.
 pub fn write_messages<S: SealedFile, W: Write>(
@@ -246,7 +275,5 @@ pub fn write_messages<S: SealedFile, W: Write>(
     ensures cause { HasCause (refusal.Query ReadRefusal.Fault) faults.old faults.new result }
 {
     let carry = carry_before(alloc, snapshot, skip, faults)?;
-    let patience = &mut Patience::new();
-    write_restated(alloc, &carry, output, patience)?;
-    write_kept(alloc, snapshot, skip, most, output, patience, faults)
+    write_after(alloc, snapshot, &carry, skip, most, output, faults)
 }

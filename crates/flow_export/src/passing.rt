@@ -6,7 +6,7 @@ ghost use Rattle.flow_codec.specs.Templates.{AllTemplates};
 ghost use Rattle.flow_export.specs.Export.{PassesOn, PrefixPasses};
 ghost use Rattle.flow_measure.specs.History.{Accepted, AreAcceptedFrom};
 ghost use Rattle.flow_segment.specs.Batch.{AreTaken};
-ghost use Rattle.flow_segment.specs.Carry.{carry_with, octets_of, IsTaken};
+ghost use Rattle.flow_segment.specs.Carry.{carry_with, no_carry, octets_of, IsTaken};
 ghost use Rattle.flow_segment.specs.Prefix.{IsRestated};
 ghost use Rattle.flow_snapshot.specs.Answered.{IsAnswered};
 
@@ -37,14 +37,19 @@ pub(crate) fn take_in(
     }
 }
 
-/// What the messages of a prefix pass on, read from nothing.
-fn pass_prefix(alloc: Global, file: u64, prefix: &[u8]) -> Result<Carry, ReadRefusal>
-    ensures found { IfOk result (λ carry. PrefixPasses prefix.now carry) }
+/// Takes in the messages of a prefix, after nothing.
+fn pass_prefix(
+    carry: &mut Carry,
+    alloc: Global,
+    file: u64,
+    prefix: &[u8],
+) -> Result<(), ReadRefusal>
+    requires { carry.old ≡ no_carry 0 }
+    ensures found { OnOk result (PrefixPasses prefix.now carry.new) }
     ensures given { (all : AllTemplates) → IsRestated prefix.now all
-        → IsAnswered (λ carry. carry.templates ≡ all) result }
+        → IsAnswered (λ _. carry.new.templates ≡ all) result }
     ensures quiet { IfErr result (λ e. e ≢ ReadRefusal.Fault) }
 {
-    let mut carry = Carry::new(alloc);
     let mut rest = prefix;
     'messages: while !rest.is_empty() {
         let at = (prefix.len() - rest.len()) as u64;
@@ -52,10 +57,10 @@ fn pass_prefix(alloc: Global, file: u64, prefix: &[u8]) -> Result<Carry, ReadRef
             return Err(ReadRefusal::Damaged(file, at));
         };
         let (message, more) = rest.split_at(length);
-        take_in(&mut carry, alloc, message, file, at)?;
+        take_in(carry, alloc, message, file, at)?;
         rest = more;
     }
-    Ok(carry)
+    Ok(())
 }
 
 /// Takes in messages of a file, the first of which is at this place.
@@ -80,6 +85,28 @@ fn take_all(
     Ok(())
 }
 
+/// Takes in a file's prefix, after nothing, and its first messages, so many.
+fn pass(
+    carry: &mut Carry,
+    alloc: Global,
+    file: u64,
+    prefix: &[u8],
+    messages: &[Bytes],
+    count: u64,
+) -> Result<(), ReadRefusal>
+    requires { carry.old ≡ no_carry 0 }
+    ensures found { OnOk result
+        (PassesOn (record { prefix = prefix.now; messages = messages.now }) count carry.new) }
+    ensures given { (before : AllTemplates) (list : List Accepted) → IsRestated prefix.now before
+        → AreAcceptedFrom before list → octets_of list ≡ messages.now → IsAnswered (λ _. ⊤) result }
+    ensures quiet { IfErr result (λ e. e ≢ ReadRefusal.Fault) }
+{
+    pass_prefix(carry, alloc, file, prefix)?;
+    let most = messages.len() as u64;
+    let first = &messages[..count.min(most) as usize];
+    take_all(carry, alloc, first, file, prefix.len() as u64)
+}
+
 /// What a file passes on to the message after its first ones, so many: its number, its prefix and its messages are
 /// given.
 pub(crate) fn passed_on(
@@ -95,9 +122,7 @@ pub(crate) fn passed_on(
         → AreAcceptedFrom before list → octets_of list ≡ messages.now → IsAnswered (λ _. ⊤) result }
     ensures quiet { IfErr result (λ e. e ≢ ReadRefusal.Fault) }
 {
-    let mut carry = pass_prefix(alloc, file, prefix)?;
-    let most = messages.len() as u64;
-    let first = &messages[..count.min(most) as usize];
-    take_all(&mut carry, alloc, first, file, prefix.len() as u64)?;
+    let mut carry = Carry::new(alloc);
+    pass(&mut carry, alloc, file, prefix, messages, count)?;
     Ok(carry)
 }

@@ -10,7 +10,7 @@ ghost use Rattle.flow_headline.specs.Front.{EndsAtFault};
 ghost use Rattle.flow_headline.specs.Machine.{AreTotals, IsRefusal, IsUnanswered};
 
 use crate::error::TotalsRefusal;
-use crate::reopening::run_and_open;
+use crate::reopening::{Reopened, run_and_open};
 use flow_archive::{Answer, Archive, ArchiveError, Event};
 use flow_disk::Faults;
 use flow_measure::Row;
@@ -52,14 +52,25 @@ pub fn totals_after_a_stop(
     // Refused only where memory runs out, where no stop leaves what was chosen, or where sums don't fit their types.
     ensures refused { IfErr result (λ e. IsRefusal archive events.now choice.entry e) }
 {
-    let mut reopened = run_and_open(alloc, archive, events, choice)?;
-    match rows_of(alloc, &mut reopened.archive, from, to) {
-        Ok(rows) => Ok(StoppedTotals {
-            answers: reopened.answers,
-            rows,
-        }),
+    let Reopened { answers, archive } = run_and_open(alloc, archive, events, choice)?;
+    match last_rows_of(alloc, archive, from, to) {
+        Ok(rows) => Ok(StoppedTotals { answers, rows }),
         Err(refused) => Err(refused),
     }
+}
+
+/// The totals of an archive in memory, which is given up.
+fn last_rows_of(
+    alloc: Global,
+    mut archive: Archive<MemoryDisk>,
+    from: u64,
+    to: u64,
+) -> Result<Vec<Row>, TotalsRefusal>
+    ensures rows { IfOk result (λ rows. (v : View) → IsViewOf (shelf_of archive.state) v
+        → rows.items ≡ totals_in_view from to v) }
+    ensures refused { IfErr result (λ e. IsUnanswered archive.state e) }
+{
+    rows_of(alloc, &mut archive, from, to)
 }
 
 /// The totals of an archive in memory.

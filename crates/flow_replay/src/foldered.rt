@@ -4,7 +4,7 @@
 use crate::playing::with_archive;
 use crate::report::Report;
 use crate::stage::Stage;
-use crate::stopping::{Image, Trial, run};
+use crate::stopping::{Image, Trial, last_state, run};
 use crate::thawed::{Failure, after_power_cut};
 use crate::ways::{Scene, compare, tell_open};
 use crate::worn::Wear;
@@ -18,10 +18,11 @@ const MOST_SYNCS: u64 = 100_000;
 /// The state of the archive on a folder whose power is cut, or why none is opened.
 fn found(alloc: Global, system: MemoryDirectory) -> Result<String, DiskError> {
     let disk = after_power_cut(alloc, system, Failure::NEVER)?;
-    match Stage::open(alloc, disk) {
-        Ok(mut stage) => Ok(stage.state(alloc)?),
-        Err(refused) => Ok(format!(in alloc; "{}", refused.error)?),
-    }
+    let state = match Stage::open(alloc, disk) {
+        Ok(stage) => last_state(alloc, stage),
+        Err(refused) => format!(in alloc; "{}", refused.error),
+    };
+    Ok(state?)
 }
 
 /// Compares what is found after a part that met a fault, and after the power was cut, with what may be. Of one that

@@ -153,6 +153,20 @@ fn refuse_part(
     Ok(true)
 }
 
+/// Gives lines to an archive, on a disk that has this damage, and gives it up: the disk.
+fn with_stage<D: Disk>(
+    alloc: Global,
+    mut stage: Stage<D>,
+    wear: &Wear,
+    name: &str,
+    first: &Line<'_>,
+    lines: &[Line<'_>],
+    report: &mut Report,
+) -> Result<D, AllocError> {
+    answer_part(alloc, &mut stage, wear, name, first, lines, report)?;
+    Ok(stage.into_disk())
+}
+
 /// A part with an archive, on a disk that has this damage: the disk, and whether the part is played.
 pub(crate) fn with_archive<D: Disk>(
     alloc: Global,
@@ -164,9 +178,9 @@ pub(crate) fn with_archive<D: Disk>(
     report: &mut Report,
 ) -> Result<(D, bool), AllocError> {
     match begin(alloc, disk, &first.command)? {
-        Beginning::Archive(mut stage) => {
-            answer_part(alloc, &mut stage, wear, name, first, lines, report)?;
-            Ok((stage.into_disk(), true))
+        Beginning::Archive(stage) => {
+            let disk = with_stage(alloc, stage, wear, name, first, lines, report)?;
+            Ok((disk, true))
         }
         Beginning::Refused(disk, why) => {
             let is_played = refuse_part(alloc, name, why.as_str(), first, lines, report)?;

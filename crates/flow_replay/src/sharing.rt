@@ -252,7 +252,7 @@ pub(crate) fn share<W: Wait>(
             Err(given) => archive = given,
         }
         if !report.gives_again() {
-            return Err(AllocError);
+            break;
         }
     }
     Err(AllocError)

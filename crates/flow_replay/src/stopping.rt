@@ -187,6 +187,21 @@ fn given_until<D: Disk>(
     })
 }
 
+/// Gives lines to an archive until one meets a fault, and gives it up.
+fn run_lines<D: Disk>(
+    alloc: Global,
+    mut stage: Stage<D>,
+    lines: &[Line<'_>],
+) -> Result<Ended<D>, AllocError> {
+    let until = given_until(alloc, &mut stage, lines)?;
+    Ok(Ended {
+        taken: until.taken,
+        is_stopped: until.is_stopped,
+        is_closed: until.is_closed,
+        disk: stage.into_disk(),
+    })
+}
+
 /// Makes or opens an archive, and gives lines to it until one meets a fault.
 pub(crate) fn run<D: Disk>(
     alloc: Global,
@@ -194,15 +209,7 @@ pub(crate) fn run<D: Disk>(
     given: Given<'_, '_>,
 ) -> Result<Ended<D>, AllocError> {
     match begin(alloc, disk, given.begin)? {
-        Beginning::Archive(mut stage) => {
-            let until = given_until(alloc, &mut stage, given.lines)?;
-            Ok(Ended {
-                taken: until.taken,
-                is_stopped: until.is_stopped,
-                is_closed: until.is_closed,
-                disk: stage.into_disk(),
-            })
-        }
+        Beginning::Archive(stage) => run_lines(alloc, stage, given.lines),
         Beginning::Refused(disk, why) => {
             let is_stopped = why.as_str() == FAULT;
             Ok(Ended {
@@ -215,10 +222,18 @@ pub(crate) fn run<D: Disk>(
     }
 }
 
+/// The state of an archive, which is given up.
+pub(crate) fn last_state<D: Disk>(
+    alloc: Global,
+    mut stage: Stage<D>,
+) -> Result<String, AllocError> {
+    stage.state(alloc)
+}
+
 /// The state of the archive on a disk, or why none is opened.
 pub(crate) fn found(alloc: Global, disk: MemoryDisk) -> Result<String, AllocError> {
     match Stage::open(alloc, fused(disk, u64::MAX)) {
-        Ok(mut stage) => stage.state(alloc),
+        Ok(stage) => last_state(alloc, stage),
         Err(refused) => format!(in alloc; "{}", refused.error),
     }
 }
@@ -231,12 +246,27 @@ fn add_states(
     states: &mut Vec<String>,
 ) -> Result<(), AllocError> {
     match beginning {
-        Beginning::Archive(stage) => {
-            let mut stage = stage;
-            add_all(alloc, &mut stage, given, states)
-        }
-        Beginning::Refused(disk, _) => Ok(states.push(found(alloc, disk.restart())?)?),
+        Beginning::Archive(stage) => add_all_of(alloc, stage, given, states),
+        Beginning::Refused(disk, _) => add_state(found(alloc, disk.restart()), states),
     }
+}
+
+/// Adds a state.
+fn add_state(
+    state: Result<String, AllocError>,
+    states: &mut Vec<String>,
+) -> Result<(), AllocError> {
+    Ok(states.push(state?)?)
+}
+
+/// Adds the states of an archive, which is given up.
+fn add_all_of<D: Disk>(
+    alloc: Global,
+    mut stage: Stage<D>,
+    given: Given<'_, '_>,
+    states: &mut Vec<String>,
+) -> Result<(), AllocError> {
+    add_all(alloc, &mut stage, given, states)
 }
 
 /// Adds the states of an archive: at once, and after each event of these lines.

@@ -278,24 +278,27 @@ impl HeldText {
     }
 }
 
-/// Writes the messages of the File that `input` reads, and their data records, a line each, as they are read.
-///
-/// It holds one message, and text of some 64 KiB beside a field's. Where the File ends by a fault, a refused message or
-/// a failed read, the lines of all messages before are written; where memory runs out or writing fails, a prefix of the
-/// lines.
-pub fn dump<R: Read, W: Write>(alloc: Global, input: &mut R, output: &mut W) -> Result<(), Refusal>
+/// Writes the messages of a File that was opened now, in text that holds nothing, and memory for a message.
+fn dump_messages<R: Read, W: Write>(
+    alloc: Global,
+    input: &mut R,
+    output: &mut W,
+    reader: &mut MessageReader,
+    templates: &mut Templates,
+    lines: &mut HeldText,
+    mut held: HeldRecords,
+) -> Result<(), Refusal>
+    requires opened { reader.old ≡ record { ahead = []; message = []; count = 0; at = 0; stopped = None } }
+    requires undefined { templates.old ≡ [] }
+    requires none { lines.old.text.items ≡ [] }
     ensures dumped { OnOk result
         (IfSome (R.remaining input.old) (λ octets. IsDumped octets (W.contents output.old) (W.contents output.new))) }
     ensures refused { IfErr result
         (λ e. IfSome (R.remaining input.old)
         (λ octets. IsDumpedUntil octets (R.remaining input.new) (W.contents output.old) (W.contents output.new) e)) }
 {
-    let mut reader = MessageReader::new(alloc)?;
-    let mut templates = Templates::new(alloc);
-    let mut lines = HeldText::new(alloc)?;
-    let mut held = HeldRecords::new(alloc);
     'messages: loop {
-        match next_message(alloc, input, &mut reader, &mut templates, held) {
+        match next_message(alloc, input, reader, templates, held) {
             Ok(Some(message)) => {
                 lines.put_message(output, &message)?;
                 held = message.held;
@@ -310,4 +313,30 @@ pub fn dump<R: Read, W: Write>(alloc: Global, input: &mut R, output: &mut W) -> 
             }
         }
     }
+}
+
+/// Writes the messages of the File that `input` reads, and their data records, a line each, as they are read.
+///
+/// It holds one message, and text of some 64 KiB beside a field's. Where the File ends by a fault, a refused message or
+/// a failed read, the lines of all messages before are written; where memory runs out or writing fails, a prefix of the
+/// lines.
+pub fn dump<R: Read, W: Write>(alloc: Global, input: &mut R, output: &mut W) -> Result<(), Refusal>
+    ensures dumped { OnOk result
+        (IfSome (R.remaining input.old) (λ octets. IsDumped octets (W.contents output.old) (W.contents output.new))) }
+    ensures refused { IfErr result
+        (λ e. IfSome (R.remaining input.old)
+        (λ octets. IsDumpedUntil octets (R.remaining input.new) (W.contents output.old) (W.contents output.new) e)) }
+{
+    let mut reader = MessageReader::new(alloc)?;
+    let mut lines = HeldText::new(alloc)?;
+    let mut templates = Templates::new(alloc);
+    dump_messages(
+        alloc,
+        input,
+        output,
+        &mut reader,
+        &mut templates,
+        &mut lines,
+        HeldRecords::new(alloc),
+    )
 }

@@ -1,7 +1,9 @@
 //! The command `measure`.
 
-ghost use Rattle.std.specs.Prelude.{◌≡◌, ◌≤◌, [], ℕ, List, vec_capacity, OnOk, IfOk, IfErr, IfSome};
+ghost use Rattle.std.specs.Prelude.{◌≡◌, ◌≤◌, [], ℕ, List, vec_capacity, None, OnOk, IfOk, IfErr, IfSome};
 ghost use Rattle.std.specs.Io.KnownBytes.{Appends};
+ghost use Rattle.flow_codec.specs.Losses.{no_losses};
+ghost use Rattle.flow_measure.specs.Sums.{empty_table};
 ghost use Rattle.flow_report.specs.Lacks.{HasLosses};
 ghost use Rattle.flow_report.specs.Refusals.{refusal_of, IsOfInput};
 ghost use Rattle.flow_report.specs.Writing.{AppendsFront};
@@ -19,6 +21,66 @@ use flow_measure::{Row, Rows, SumError, Totals};
 use std::alloc::Global;
 use std::io::{Read, Write};
 
+/// Adds the flows of all messages of a File that was opened now to sums of none, and answers what the messages show of
+/// records that aren't read.
+fn add_messages<R: Read>(
+    alloc: Global,
+    input: &mut R,
+    reader: &mut MessageReader,
+    templates: &mut Templates,
+    lacking: &mut Lacking,
+    sums: &mut CountedTotals,
+) -> Result<Losses, Refusal>
+    requires opened { reader.old ≡ record { ahead = []; message = []; count = 0; at = 0; stopped = None } }
+    requires undefined { templates.old ≡ [] }
+    requires unlost { lacking.old.losses ≡ no_losses }
+    requires undue { lacking.old.due.entries ≡ [] }
+    requires empty { sums.old.totals.rows ≡ empty_table sums.old.totals.rows.width }
+    ensures sums { OnOk result (IfSome (R.remaining input.old)
+        (λ octets. HasSums sums.old.totals.rows.width octets sums.new.totals.rows)) }
+    ensures losses { IfOk result (λ losses. IfSome (R.remaining input.old) (λ octets. HasLosses octets losses)) }
+    ensures refused { IfErr result (λ e. IfSome (R.remaining input.old)
+        (λ octets. IsRefusedBy octets (R.remaining input.new) e)) }
+    ensures unwritten { IfErr result (λ e. IsOfInput e) }
+{
+    'messages: while reader.advance(input)? {
+        sums.records = 0;
+        match walk_sets(templates, alloc, reader.message(), sums) {
+            Ok(walked) => lacking.note(&walked, sums.records)?,
+            Err(stop) => return Err(refusal_of(stop, reader.count())),
+        }
+    }
+    Ok(lacking.losses())
+}
+
+/// Adds the flows of the File that `input` reads to sums of none, and answers what its messages show of records that
+/// aren't read.
+fn add_file<R: Read>(
+    alloc: Global,
+    input: &mut R,
+    sums: &mut CountedTotals,
+) -> Result<Losses, Refusal>
+    requires { sums.old.totals.rows ≡ empty_table sums.old.totals.rows.width }
+    ensures sums { OnOk result (IfSome (R.remaining input.old)
+        (λ octets. HasSums sums.old.totals.rows.width octets sums.new.totals.rows)) }
+    ensures losses { IfOk result (λ losses. IfSome (R.remaining input.old) (λ octets. HasLosses octets losses)) }
+    ensures refused { IfErr result (λ e. IfSome (R.remaining input.old)
+        (λ octets. IsRefusedBy octets (R.remaining input.new) e)) }
+    ensures unwritten { IfErr result (λ e. IsOfInput e) }
+{
+    let mut reader = MessageReader::new(alloc)?;
+    let mut templates = Templates::new(alloc);
+    let mut lacking = Lacking::new(alloc);
+    add_messages(
+        alloc,
+        input,
+        &mut reader,
+        &mut templates,
+        &mut lacking,
+        sums,
+    )
+}
+
 /// The sums of all flows of the File that `input` reads, over intervals of this width, and what its messages show of
 /// records that aren't read.
 fn sums_of<R: Read>(alloc: Global, width: Width, input: &mut R) -> Result<(Rows, Losses), Refusal>
@@ -28,23 +90,14 @@ fn sums_of<R: Read>(alloc: Global, width: Width, input: &mut R) -> Result<(Rows,
         (λ octets. IsRefusedBy octets (R.remaining input.new) e)) }
     ensures unwritten { IfErr result (λ e. IsOfInput e) }
 {
-    let mut reader = MessageReader::new(alloc)?;
-    let mut templates = Templates::new(alloc);
-    let mut lacking = Lacking::new(alloc);
     let mut sums = CountedTotals {
         totals: Totals {
             rows: Rows::new(alloc, width.seconds()),
         },
         records: 0,
     };
-    'messages: while reader.advance(input)? {
-        sums.records = 0;
-        match walk_sets(&mut templates, alloc, reader.message(), &mut sums) {
-            Ok(walked) => lacking.note(&walked, sums.records)?,
-            Err(stop) => return Err(refusal_of(stop, reader.count())),
-        }
-    }
-    Ok((sums.totals.rows, lacking.losses()))
+    let losses = add_file(alloc, input, &mut sums)?;
+    Ok((sums.totals.rows, losses))
 }
 
 /// Why a run stops at the message of this number.

@@ -6,7 +6,7 @@ ghost use Rattle.flow_model.specs.Shelved.{shelf_of};
 use crate::archives::in_memory;
 use crate::places::{away, entering, first};
 use crate::threads::{lets_in, meet_over};
-use flow_archive::Archive;
+use flow_archive::{Archive, ArchiveError};
 use flow_disk::{Disk, SealedFile};
 use flow_memory_disk::MemoryDisk;
 use flow_shared::{ArchiveReader, Naming, Opened, SharedArchive, start};
@@ -68,15 +68,36 @@ fn is_left<S: SealedFile, J: Naming>(
     }
 }
 
-/// Lets threads share an archive, with 16 readers, and tries it. What is sent to a thread has bounds that a trait's
-/// method can't have.
+/// Tries it, and ends the sharing: whether it is so, whether the archive is open then, and whether the places are left.
+fn tried_and_ended<
+    D: Disk + Send,
+    J: Naming + Send + Sync,
+    W: Wait + Threads + Abort + Send + Sync,
+>(
+    rt: &W,
+    alloc: Global,
+    shared: SharedArchive<D, J, W>,
+    readers: &mut [ArchiveReader<D::Sealed, J>],
+    trial: Trial,
+) -> [bool; 3]
+where
+    D::Sealed: Send + Sync,
+{
+    let is_so = is_so(rt, alloc, &shared, readers, trial);
+    let snapshot = first(readers);
+    let is_open = !shared.end(rt).is_closed();
+    [is_so, is_open, is_left(readers, &snapshot, trial)]
+}
+
+/// Lets threads share an archive, with 16 readers, and tries it; none where they can't. What is sent to a thread has
+/// bounds that a trait's method can't have.
 fn share<D: Disk + Send, J: Naming + Send + Sync, W: Wait + Threads + Abort + Send + Sync>(
     rt: &W,
     alloc: Global,
     archive: Archive<D>,
     opened: Opened,
     trial: Trial,
-) -> Result<(), Fail>
+) -> Option<[bool; 3]>
 where
     D::Sealed: Send + Sync,
     requires book { opened.seen.book ≡ J.book }
@@ -86,15 +107,10 @@ where
     match start::<D, J, W>(alloc, archive, opened, 16) {
         Ok((shared, readers)) => {
             let mut readers = readers;
-            let is_so = is_so(rt, alloc, &shared, readers.as_mut_slice(), trial);
-            assert!(rt; is_so);
-            let snapshot = first(readers.as_mut_slice());
-            let archive = shared.end(rt);
-            assert!(rt; !archive.is_closed());
-            assert!(rt; is_left(readers.as_mut_slice(), &snapshot, trial));
-            Ok(())
+            let ended = tried_and_ended(rt, alloc, shared, readers.as_mut_slice(), trial);
+            Some(ended)
         }
-        Err(_) => Err(Fail::new("no start")),
+        Err(_) => None,
     }
 }
 
@@ -105,7 +121,9 @@ fn tried<W: Wait + Threads + Abort + Send + Sync>(
     trial: Trial,
 ) -> Result<(), Fail> {
     let archive = in_memory(alloc)?;
-    share::<MemoryDisk, Brand, W>(rt, alloc, archive, Opened::new(), trial)
+    let ended = share::<MemoryDisk, Brand, W>(rt, alloc, archive, Opened::new(), trial);
+    assert_eq!(rt; ended, Some([true; 3]));
+    Ok(())
 }
 
 #[test]
@@ -118,9 +136,14 @@ fn places_enter(rt: HostRuntime) -> Result<(), Fail> {
     tried(&rt, rt.alloc(), Trial::Places)
 }
 
+/// Whether workers meet over an archive in memory.
+fn meet_in_memory<R: Threads + Sync>(rt: &R, alloc: Global) -> Result<bool, ArchiveError> {
+    let mut archive = in_memory(alloc)?;
+    Ok(meet_over(rt, alloc, &mut archive))
+}
+
 #[test]
 fn workers_meet(rt: HostRuntime) -> Result<(), Fail> {
-    let mut archive = in_memory(rt.alloc())?;
-    assert!(rt; meet_over(&rt, rt.alloc(), &mut archive));
+    assert!(rt; meet_in_memory(&rt, rt.alloc())?);
     Ok(())
 }

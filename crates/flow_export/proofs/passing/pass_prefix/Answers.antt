@@ -39,8 +39,8 @@ returns-in_err-take_in-clause-given c = λ all is.
 
 pub messages-init : goal.messages-init
 messages-init c = record {
-  found = none_passed c.args.prefix.now c.new-carry.result c.new-carry.ensures;
-  given = λ all is. subst (λ (x : Carry). IsStillRestated c.args.prefix.now x.templates all) (sym c.new-carry.ensures)
+  found = none_passed c.args.prefix.now c.args.carry.now c.requires;
+  given = λ all is. subst (λ (x : Carry). IsStillRestated c.args.prefix.now x.templates all) (sym c.requires)
       (still_restated c.args.prefix.now all is);
   within = omega arith;
 }

@@ -3,6 +3,8 @@ use Rattle.flow_codec.specs.Templates.{AllTemplates}
 use Rattle.flow_measure.specs.History.{AreAcceptedFrom}
 use Rattle.flow_snapshot.proofs.KeptFlows.{answered_err}
 use Rattle.flow_export.specs.Span.{IsFound}
+use Rattle.flow_refusals.specs.declared.read_refusal.ReadRefusal.TheVariants as query
+use Rattle.flow_export.proofs.Written.{quiet_cause}
 use Rattle.flow_export.proofs.FoundInBoth.{answered_as, outside_none}
 use Rattle.flow_export.proofs.places.find_sealed.Goals as goal
 
@@ -24,3 +26,8 @@ returns-clause-given g c = λ honest before list restated accepted octets.
     answered_as _ (IsFound span.from span.to list) c.find_in.result (λ found is. is.1)
     (c.find_in.ensures.given list (subst (λ (t : AllTemplates). AreAcceptedFrom t list) (sym own.0) accepted)
     (octets ∙ sym (c.as_slice-messages.ensures.value ∙ own.1)))
+
+pub returns-clause-cause : goal.returns-clause-cause
+returns-clause-cause g c =
+    quiet_cause query.Fault c.args.faults.now c.read_own.new.faults c.find_in.result c.in_ok-own.ensures.cause.done
+    c.find_in.ensures.quiet

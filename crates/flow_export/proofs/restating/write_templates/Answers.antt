@@ -3,6 +3,7 @@ use Rattle.std.proofs.KnownBytes.{Keeps-refl}
 use Rattle.std.specs.Io.KnownBytes.{Appends}
 use Rattle.flow_disk.proofs.Results.{if_err_by, on_ok_by, passed_on}
 use Rattle.flow_segment.specs.Carry.{prefix_of}
+use Rattle.flow_refusals.specs.declared.read_refusal.ReadRefusal.TheVariants as query
 use Rattle.flow_export.specs.declared.refusal.ExportRefusal.TheVariants as refusal
 use Rattle.flow_export.specs.Export.{AreTemplates, AreTemplatesAfter, IsBlameless, Writes, WritesOrNot}
 use Rattle.flow_export.proofs.Viewed.{last_passes, own_file}
@@ -74,5 +75,5 @@ returns-clause-some g c =
 
 pub returns-clause-cause : goal.returns-clause-cause
 returns-clause-cause g c =
-    quiet_cause c.args.faults.now c.carry_after.new.faults c.write_restated.result c.in_ok-carry.ensures.cause.done
+    quiet_cause (refusal.Query query.Fault) c.args.faults.now c.carry_after.new.faults c.write_restated.result c.in_ok-carry.ensures.cause.done
     c.write_restated.ensures.quiet

@@ -59,7 +59,7 @@ returns-in_err-write_restated-clause-blameless g c = λ honest v view.
 pub returns-in_err-write_restated-clause-cause : goal.returns-in_err-write_restated-clause-cause
 returns-in_err-write_restated-clause-cause g c =
     let r = c.from_residual-in_err-write_restated.result in
-    quiet_cause c.args.faults.now c.carry_before.new.faults r c.in_ok-carry.ensures.cause.done
+    quiet_cause (refusal.Query query.Fault) c.args.faults.now c.carry_before.new.faults r c.in_ok-carry.ensures.cause.done
     (passed_on r (c.in_err-write_restated.field-0).0 (λ e. e ≢ refusal.Query query.Fault)
     c.from_residual-in_err-write_restated.ensures.1 c.in_err-write_restated.ensures.quiet)
 

@@ -1,7 +1,10 @@
 use Rattle.std.proofs.lemmas.Result.{err_from_is_err_and}
-use Rattle.flow_report.proofs.Joining.{goes_on, is_cut}
+use Rattle.flow_report.proofs.Joining.{begins, goes_on, is_cut}
 use Rattle.flow_report.proofs.Holding.{records_text, next_record}
 use Rattle.flow_report.proofs.output.HeldText.put_records.Goals as goal
+
+pub loop-record-init : goal.loop-record-init
+loop-record-init g c = begins _ c.args.self.now.text.items _
 
 pub returns-in_err-put_record-clause-front : goal.returns-in_err-put_record-clause-front
 returns-in_err-put_record-clause-front g c =

@@ -2,24 +2,22 @@ use Rattle.std.proofs.Common.{ap, refl, subst, ◌∙◌, arith, List, ℕ}
 use Rattle.std.specs.Prelude.{Ok, Bool}
 use Rattle.flow_codec.specs.Unread.{counted, unread_of}
 use Rattle.flow_codec.specs.Stream.{progress, IsStep, Progress}
-use Rattle.flow_measure.specs.Sums.{empty_table}
 use Rattle.flow_report.specs.declared.refusal.Refusal.TheVariants as refusal
 use Rattle.flow_report.proofs.Reached.{opened}
 use Rattle.flow_report.proofs.Losing.{all_lacked, lacked_more, none_lacked}
 use Rattle.flow_report.proofs.Summing.{always, begun, ended_by, err_of, of_input, short_at, stepped, stopped_at, summed}
-use Rattle.flow_report.proofs.measuring.sums_of.Goals as goal
+use Rattle.flow_report.proofs.measuring.add_messages.Goals as goal
 
 pub messages-init : goal.messages-init
 messages-init g c =
     let old = g.R.Read.remaining c.args.input.now in
-    let reader = progress c.in_ok-reader.reader old in
+    let reader = progress c.args.reader.now old in
     record {
-      sums = begun c.args.width old reader c.new-templates.result (record { rows = c.new-2.result })
-          (opened _ _ c.in_ok-reader.ensures) c.new-templates.ensures
-          (c.new-2.ensures ∙ ap empty_table c.seconds.ensures.value);
-      lacks = none_lacked old reader.rest c.new-templates.result c.new-lacking.result.losses
-          c.new-lacking.result.due.entries (ap (λ (p : Progress). p.rest) (opened _ _ c.in_ok-reader.ensures))
-          c.new-templates.ensures c.new-lacking.ensures.losses c.new-lacking.ensures.due;
+      sums = begun c.args.sums.now.totals.rows.width old reader c.args.templates.now c.args.sums.now.totals
+          (opened _ _ c.requires.opened) c.requires.undefined c.requires.empty;
+      lacks = none_lacked old reader.rest c.args.templates.now c.args.lacking.now.losses
+          c.args.lacking.now.due.entries (ap (λ (p : Progress). p.rest) (opened _ _ c.requires.opened)) c.requires.undefined
+          c.requires.unlost c.requires.undue;
     }
 
 pub messages-preserved : goal.messages-preserved
@@ -29,7 +27,7 @@ messages-preserved g c =
     let after = progress c.advance.new.self (g.R.Read.remaining c.advance.new.input) in
     let step = subst (λ (b : Bool). IsStep before (Ok b) after) c.if-branch.true c.in_ok-advance.ensures.step in
     let found = c.in-Ok.ensures.found in
-    let next = stepped c.args.width old before after c.messages.templates c.walk_sets.new.templates
+    let next = stepped c.args.sums.now.totals.rows.width old before after c.messages.templates c.walk_sets.new.templates
     (record c.messages.sums { records = 0 }) c.walk_sets.new.sink c.in-Ok.walked.header c.message.result.now
     c.messages.invariant.sums refl step c.message.ensures.value found in
     let unread = c.in-Ok.ensures.unread
@@ -53,8 +51,8 @@ returns-clause-losses g c =
 
 pub returns-in_err-advance-clause-refused : goal.returns-in_err-advance-clause-refused
 returns-in_err-advance-clause-refused g c =
-    err_of c.from_residual-in_err-advance.result _ _ c.from_residual-in_err-advance.ensures.1
-    (ended_by c.args.width
+    err_of c.from_residual.result _ _ c.from_residual.ensures.1
+    (ended_by c.args.sums.now.totals.rows.width
     (g.R.Read.remaining c.args.input.now) _ c.advance.new.self.ahead
     (progress c.messages.reader (g.R.Read.remaining c.messages.input))
     (progress c.advance.new.self (g.R.Read.remaining c.advance.new.input)) c.messages.templates
@@ -66,7 +64,7 @@ returns-in-Err-clause-refused g c =
     let step = subst (λ (b : Bool). IsStep (progress c.messages.reader (g.R.Read.remaining c.messages.input)) (Ok b)
     (progress c.advance.new.self (g.R.Read.remaining c.advance.new.input))) c.if-branch.true
     c.in_ok-advance.ensures.step in
-    let refused = stopped_at c.args.width
+    let refused = stopped_at c.args.sums.now.totals.rows.width
     (g.R.Read.remaining c.args.input.now) _ (progress c.messages.reader (g.R.Read.remaining c.messages.input))
     (progress c.advance.new.self (g.R.Read.remaining c.advance.new.input)) c.messages.templates
     (record c.messages.sums { records = 0 }) c.message.result.now c.in-Err.stop
@@ -79,14 +77,14 @@ returns-clause-sums g c =
     let step = subst (λ (b : Bool). IsStep (progress c.messages.reader (g.R.Read.remaining c.messages.input)) (Ok b)
     (progress c.advance.new.self (g.R.Read.remaining c.advance.new.input))) c.if-branch.false
     c.in_ok-advance.ensures.step in
-    summed c.args.width (g.R.Read.remaining c.args.input.now)
+    summed c.args.sums.now.totals.rows.width (g.R.Read.remaining c.args.input.now)
     (progress c.messages.reader (g.R.Read.remaining c.messages.input))
     (progress c.advance.new.self (g.R.Read.remaining c.advance.new.input)) c.messages.templates
     c.messages.sums.totals c.messages.invariant.sums step
 
 pub returns-in_err-advance-clause-unwritten : goal.returns-in_err-advance-clause-unwritten
 returns-in_err-advance-clause-unwritten g c =
-    err_of c.from_residual-in_err-advance.result _ _ c.from_residual-in_err-advance.ensures.1
+    err_of c.from_residual.result _ _ c.from_residual.ensures.1
     (of_input c.in_err-advance.field-0.0)
 
 pub returns-in_err-note-in-Ok-clause-refused : goal.returns-in_err-note-in-Ok-clause-refused

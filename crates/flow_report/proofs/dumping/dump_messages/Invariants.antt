@@ -1,7 +1,7 @@
 use Rattle.std.proofs.Common.{◌-◌, ◌^◌}
 use Rattle.flow_codec.specs.Stream.{progress}
 use Rattle.flow_report.proofs.Printing.{IsDumping}
-use Rattle.flow_report.proofs.dumping.dump.Given as goal
+use Rattle.flow_report.proofs.dumping.dump_messages.Given as goal
 
 abbrev pub invariant-messages : goal.invariant-messages
 invariant-messages g l =
