@@ -1,18 +1,19 @@
 #!/usr/bin/env python3
-"""exported.py PROGRAM [--archives N] [--readers]: makes archives of random messages, of several Observation Domains whose templates
-are defined, defined otherwise, withdrawn and restated, in small segments, some of which are rolled, and exports spans
-of messages of each. What comes must be, to the octet, the templates that an independent reader of archives
-(examples/read_archive.py) has in force before the first message, restated, and then the messages as they were fed. It
-is fed to a new archive, which must take all of it in, and whose flows and totals must be those of just these messages.
-`templates` must be the export of no message, after all. Messages that are rolled must be refused by 52.
+"""exported.py PROGRAM [--archives N] [--readers]: makes archives of random messages, of several Observation Domains
+whose templates are defined, defined otherwise, withdrawn and restated, in small segments, some of which are rolled, and
+exports spans of messages of each. What comes must be, to the octet, the templates that an independent reader of
+archives (examples/read_archive.py) has in force before the first message, restated, and then the messages as they were
+fed. It is fed to a new archive, which must take all of it in, and whose flows and totals must be those of just these
+messages. `templates` must be the export of no message, after all. Messages that are rolled must be refused by 52.
 
 Spans of time are exported likewise: what comes must be the messages of which some flow starts in the span, by the same
 reader, and between the first and the last of these those with Sets of templates, after the templates in force before
 the first. 52 must come exactly where an interval of the sums of rolled messages, which are merged in the end, meets the
 span.
 
-With --readers, other readers of IPFIX are given the Files too: tshark, libfixbuf's ipfixDump, and python3-ipfix, as many
-of them as are installed; they must find as many messages as the independent reader, and nothing malformed.
+With --readers, other readers of IPFIX are given the Files too: tshark, libfixbuf's ipfixDump, and python3-ipfix, as
+many of them as are installed; they must find as many messages as the independent reader, and nothing malformed. Where
+ipfixDump comes to no end, that is printed, and is no difference.
 
 It prints each difference, and ends with 'N cases of exports: M differ', where a case is an export; its status is 0
 where M is 0, else 1."""

@@ -129,13 +129,24 @@ def timed(crates, crate, only):
 PARTS = {"Lts": "body", "Proof": "search", "Answers": "hand"}
 AT = re.compile(r"antt: cache: Rattle-(\S+?)-proofs\.(\S+)\.(\w+): (?:(\S+): not reused)?")
 
+# Lines of the prover that say nothing but what is well.
+QUIET = re.compile(r"(fn|struct|enum|trait|impl) .*: proved|statements |axioms |logic /")
+
+# Parts of less than so many seconds aren't printed.
+LEAST = 0.1
+
 
 def part_of(crate, line):
     """The function, part and goal that a line of the prover says it is at; none of another crate, or no function."""
     at = AT.match(line)
     if not at or at[1] != crate:
         return None
-    return at[2].replace(".", "::"), PARTS.get(at[3], "other"), at[4] or ""
+    function, part, goal = at[2], at[3], at[4] or ""
+    owner, _, last = function.rpartition(".")
+    if last in (*PARTS, "Code"):
+        # (a module of a part)
+        function, part = owner, last
+    return function.replace(".", "::"), PARTS.get(part, "other"), goal
 
 
 def parted(crates, crate, only):
@@ -154,10 +165,11 @@ def parted(crates, crate, only):
                     else:
                         besides += now - before
                     before, at = now, part_of(crate, line)
-                else:
+                elif not QUIET.match(line):
                     print(line, end="")
     for (function, part, goal), seconds in took.most_common(60):
-        print("%7.1f %-6s %s %s" % (seconds, part, function, goal))
+        if seconds >= LEAST:
+            print("%7.1f %-6s %s" % (seconds, part, " ".join(filter(None, (function, goal)))))
     for part in (*PARTS.values(), "other"):
         print("%7.1f %s in all" % (sum(it for (_, own, _), it in took.items() if own == part), part))
     print("%7.1f besides: loading, definitions, lemmas; %.1f in all" % (besides, before))
@@ -185,7 +197,7 @@ def main():
     ran = subprocess.run([*words(crates, crate), *only, *flags], cwd="crates/" + crate, stdout=subprocess.PIPE,
                          stderr=subprocess.STDOUT, text=True)
     for line in ran.stdout.split("\n"):
-        if not re.match(r"(fn|struct|enum|trait|impl) .*: proved|statements |axioms |logic /", line):
+        if not QUIET.match(line):
             print(line)
     return ran.returncode
 
