@@ -86,9 +86,14 @@ fn counts(alloc: Global, events: &[Event], call: u64, choice: Choice<'_>) -> Opt
     match run_and_open(alloc, archive, events, choice) {
         Ok(reopened) => {
             let mut reopened = reopened;
-            counted(alloc, &mut reopened)
+            let counted = counted(alloc, &mut reopened);
+            drop(reopened);
+            counted
         }
-        Err(_) => None,
+        Err(refused) => {
+            drop(refused);
+            None
+        }
     }
 }
 
@@ -109,10 +114,10 @@ fn is_no_stop(alloc: Global, events: &[Event]) -> bool
     let Ok(archive) = created(alloc, ALL_CALLS) else {
         return false;
     };
-    matches!(
-        run_and_open(alloc, archive, events, Choice::Filled(&[])),
-        Err(NotOpened::NoSuchStop)
-    )
+    let opened = run_and_open(alloc, archive, events, Choice::Filled(&[]));
+    let is_refused = matches!(opened, Err(NotOpened::NoSuchStop));
+    drop(opened);
+    is_refused
 }
 
 /// The number of the last message that is acknowledged where an archive takes events.
@@ -132,7 +137,9 @@ fn last_of_all(alloc: Global, events: &[Event]) -> Option<u64>
     match created(alloc, ALL_CALLS) {
         Ok(archive) => {
             let mut archive = archive;
-            last_of(alloc, &mut archive, events)
+            let last = last_of(alloc, &mut archive, events);
+            drop(archive);
+            last
         }
         Err(_) => None,
     }

@@ -365,6 +365,19 @@ pub fn check_files<D: Disk, W: Write>(
     }
 }
 
+/// Writes these lines of the archive on a disk, and lets the disk go.
+fn write_listing<D: Disk, W: Write>(
+    alloc: Global,
+    disk: D,
+    output: &mut W,
+) -> Result<(), ArchiveRefusal>
+    requires { (n : ℕ) → (D.marks disk n).frozen ≡ false }
+    ensures written { OnOk result (Writes AreListings (W.contents output.old) (W.contents output.new)) }
+    ensures kept { IfErr result (λ e. WritesOrNot AreListings e (W.contents output.old) (W.contents output.new)) }
+{
+    ended(check_files(alloc, disk, output, &mut Faults::new()))
+}
+
 /// The same of the archive of a folder, of which nothing is changed, and which others may ask meanwhile.
 pub fn check_files_in<H: Files + AllocGlobal + Clone + Drop, W: Write>(
     rt: &H,
@@ -378,5 +391,5 @@ where
     ensures kept { IfErr result (λ e. WritesOrNot AreListings e (W.contents output.old) (W.contents output.new)) }
 {
     let view = FolderView::noting(rt, folder, first_fault)?;
-    ended(check_files(rt.alloc(), view, output, &mut Faults::new()))
+    write_listing(rt.alloc(), view, output)
 }

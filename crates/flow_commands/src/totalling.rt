@@ -252,7 +252,7 @@ pub fn totals_in<H: Files + AllocGlobal + Clone + Drop + Threads + Send + Sync, 
     folder: &str,
     first_fault: &FirstFault,
     span: &StartSpan,
-    workers: Option<Workers>,
+    workers: Option<&Workers>,
     format: Format,
     output: &mut W,
 ) -> Result<(), ArchiveRefusal>
@@ -266,17 +266,15 @@ where
     ensures written { OnOk result (Writes (AreRows format) (W.contents output.old) (W.contents output.new)) }
     ensures kept { IfErr result (λ e. WritesOrNot (AreRows format) e (W.contents output.old) (W.contents output.new)) }
 {
-    let workers = match workers {
-        Some(workers) => workers,
-        None => Workers::of_processors(rt),
-    };
+    let usual = Workers::of_processors(rt);
+    let workers = workers.unwrap_or(&usual);
     let view = FolderView::noting(rt, folder, first_fault)?;
     ended(totals(
         rt,
         rt.alloc(),
         view,
         span,
-        &workers,
+        workers,
         format,
         output,
         &mut Faults::new(),

@@ -1,6 +1,6 @@
 //! The command `inspect`.
 
-ghost use Rattle.std.specs.Prelude.{◌≡◌, ◌++◌, [], ℕ, List, Some, OnOk, IfOk, IfErr, IfSome, length};
+ghost use Rattle.std.specs.Prelude.{◌≡◌, ◌++◌, [], ℕ, List, Some, None, OnOk, IfOk, IfErr, IfSome, length};
 ghost use Rattle.std.specs.Io.KnownBytes.{Appends};
 ghost use Rattle.flow_report.specs.Refusals.{IsOfInput};
 ghost use Rattle.flow_report.specs.Measure.{IsRefusedBy};
@@ -53,17 +53,23 @@ fn add_message(
     }
 }
 
-/// What is counted of each domain of the File that `input` reads.
-fn reports_of<R: Read>(alloc: Global, input: &mut R) -> Result<Reports, Refusal>
-    ensures reports { IfOk result
-        (λ reports. (octets : List ℕ) × AreOf (R.remaining input.old) octets × HasReports octets reports.entries) }
+/// Counts the messages of a File that was opened now, by domain, in reports of none.
+fn add_messages<R: Read>(
+    alloc: Global,
+    input: &mut R,
+    reader: &mut MessageReader,
+    templates: &mut Templates,
+    reports: &mut Reports,
+) -> Result<(), Refusal>
+    requires opened { reader.old ≡ record { ahead = []; message = []; count = 0; at = 0; stopped = None } }
+    requires undefined { templates.old ≡ [] }
+    requires none { reports.old.entries ≡ [] }
+    ensures reports { OnOk result ((octets : List ℕ) × AreOf (R.remaining input.old) octets
+        × HasReports octets reports.new.entries) }
     ensures refused { IfErr result (λ e. IfSome (R.remaining input.old)
         (λ octets. IsRefusedBy octets (R.remaining input.new) e)) }
     ensures unwritten { IfErr result (λ e. IsOfInput e) }
 {
-    let mut reader = MessageReader::new(alloc)?;
-    let mut templates = Templates::new(alloc);
-    let mut reports = IndexMap::new(alloc);
     'messages: while reader.advance(input)? {
         let mut counts = RecordCounts {
             records: 0,
@@ -77,12 +83,35 @@ fn reports_of<R: Read>(alloc: Global, input: &mut R) -> Result<Reports, Refusal>
             uncounted: 0,
             sampled: 0,
         };
-        match walk_sets(&mut templates, alloc, reader.message(), &mut counts) {
-            Ok(walked) => add_message(&mut reports, &walked, counts)?,
+        match walk_sets(templates, alloc, reader.message(), &mut counts) {
+            Ok(walked) => add_message(reports, &walked, counts)?,
             Err(stop) => return Err(walk_refusal(stop, reader.count())),
         }
     }
-    Ok(reports)
+    Ok(())
+}
+
+/// What is counted of each domain of the File that `input` reads.
+fn reports_of<R: Read>(alloc: Global, input: &mut R) -> Result<Reports, Refusal>
+    ensures reports { IfOk result
+        (λ reports. (octets : List ℕ) × AreOf (R.remaining input.old) octets × HasReports octets reports.entries) }
+    ensures refused { IfErr result (λ e. IfSome (R.remaining input.old)
+        (λ octets. IsRefusedBy octets (R.remaining input.new) e)) }
+    ensures unwritten { IfErr result (λ e. IsOfInput e) }
+{
+    let mut reader = MessageReader::new(alloc)?;
+    let mut templates = Templates::new(alloc);
+    let mut reports = IndexMap::new(alloc);
+    let added = add_messages(alloc, input, &mut reader, &mut templates, &mut reports);
+    drop(reader);
+    drop(templates);
+    match added {
+        Ok(()) => Ok(reports),
+        Err(refused) => {
+            drop(reports);
+            Err(refused)
+        }
+    }
 }
 
 /// What is before all lines, and the lines of the domains.

@@ -140,7 +140,7 @@ fn write_totals<H: Files + AllocGlobal + Clock + Clone + Drop + Threads + Send +
     folder: &FolderName<'_>,
     first_fault: &FirstFault,
     span: MomentSpan,
-    workers: Option<Workers>,
+    workers: Option<&Workers>,
     format: Format,
     output: &mut W,
 ) -> Result<(), ArchiveRefusal>
@@ -166,7 +166,7 @@ pub(crate) fn run_totals<
     folder: &FolderName<'_>,
     first_fault: &FirstFault,
     span: MomentSpan,
-    workers: Option<Workers>,
+    workers: Option<&Workers>,
     format: Format,
     output: &mut W,
     errors: &mut E,

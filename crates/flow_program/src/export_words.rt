@@ -10,7 +10,7 @@ ghost use Rattle.flow_program.specs.Arguments.{lasting, messages_in, ordered, ti
 ghost use Rattle.flow_program.specs.CommandLine.{export_shape, numbered_shape, templates_shape, with_exports};
 
 use crate::arguments::{MomentSpan, folder_in, is_by_moments, is_given, worded_span_in};
-use crate::grammar::{folder_argument, option, with_queries};
+use crate::grammar::{folder_argument, option, titled, with_queries, with_three};
 use crate::request::Request;
 use clap::{ArgMatches, Command};
 use flow_export_folder::MessageSpan;
@@ -66,22 +66,22 @@ fn numbered_command<'a>(alloc: Global) -> Result<Command<'a>, AllocError>
     ensures shape { IfOk result (λ command. shape_of command ≡ numbered_shape) }
     ensures own { IfOk result (λ command. (fields_of command).has_globals ≡ false) }
 {
-    Command::new(alloc, "export")
-        .about(EXPORT_ABOUT)
-        .after_help(EXPORT_HELP)
-        .arg(folder_argument(alloc))?
-        .arg(option(
+    with_three(
+        titled(alloc, "export", EXPORT_ABOUT, EXPORT_HELP),
+        folder_argument(alloc),
+        option(
             alloc,
             "N",
             "from",
             "Number of the first message [the first that isn't rolled]",
-        ))?
-        .arg(option(
+        ),
+        option(
             alloc,
             "M",
             "to",
             "Number of the last message [the last of all]",
-        ))
+        ),
+    )
 }
 
 /// The command `export`, with its help.
@@ -99,10 +99,7 @@ fn templates_command<'a>(alloc: Global) -> Result<Command<'a>, AllocError>
     ensures shape { IfOk result (λ command. shape_of command ≡ templates_shape) }
     ensures own { IfOk result (λ command. (fields_of command).has_globals ≡ false) }
 {
-    Command::new(alloc, "templates")
-        .about(TEMPLATES_ABOUT)
-        .after_help(TEMPLATES_HELP)
-        .arg(folder_argument(alloc))
+    titled(alloc, "templates", TEMPLATES_ABOUT, TEMPLATES_HELP).arg(folder_argument(alloc))
 }
 
 /// The program with the commands that ask an archive, and those that export it.

@@ -1,8 +1,8 @@
 //! What the parser of the command line is given: the commands, and their help.
 
-ghost use Rattle.std.specs.Prelude.{◌≡◌, ◌++◌, false, IfOk};
+ghost use Rattle.std.specs.Prelude.{◌≡◌, ◌++◌, ◌∷◌, [], false, IfOk};
 ghost use Rattle.clap.specs.Walk.{rule_of};
-ghost use Rattle.clap.specs.Simple.{app_of, shape_of};
+ghost use Rattle.clap.specs.Simple.{app_of, new_shape, shape_of};
 ghost use Rattle.clap.specs.declared.builder.command.Command.TheViews.{out-Command as fields_of};
 ghost use Rattle.flow_program.specs.CommandLine.{any_number, check_shape, create_shape, dump_shape, explain_shape};
 ghost use Rattle.flow_program.specs.CommandLine.{feed_shape, flag, merging_shape, passing_shape};
@@ -413,16 +413,43 @@ fn until_argument<'a>(alloc: Global) -> Arg<'a>
     option(alloc, "UNTIL", "until", UNTIL)
 }
 
+/// A command without arguments, with its help.
+pub(crate) fn titled<'a>(alloc: Global, name: &'a str, about: &'a str, help: &'a str) -> Command<'a>
+    ensures shape { shape_of result ≡ new_shape name.now }
+    ensures own { (fields_of result).has_globals ≡ false }
+{
+    Command::new(alloc, name).about(about).after_help(help)
+}
+
+/// A command that takes three arguments more, none of which is global.
+pub(crate) fn with_three<'a>(
+    command: Command<'a>,
+    first: Arg<'a>,
+    second: Arg<'a>,
+    third: Arg<'a>,
+) -> Result<Command<'a>, AllocError>
+    requires { (first.global ≡ false) × (second.global ≡ false) × (third.global ≡ false) }
+    ensures shape { IfOk result (λ with. shape_of with ≡ record (shape_of command.entry) {
+      rules = (shape_of command.entry).rules
+          ++ rule_of first.entry ∷ rule_of second.entry ∷ rule_of third.entry ∷ [];
+    }) }
+    ensures own { IfOk result (λ with. (fields_of with).has_globals ≡ (fields_of command.entry).has_globals) }
+{
+    command.arg(first)?.arg(second)?.arg(third)
+}
+
 /// A command that takes the words of a format too.
 fn in_formats<'a>(alloc: Global, command: Command<'a>) -> Result<Command<'a>, AllocError>
     ensures shape { IfOk result (λ with. shape_of with
         ≡ record (shape_of command.entry) { rules = (shape_of command.entry).rules ++ format_rules }) }
     ensures own { IfOk result (λ with. (fields_of with).has_globals ≡ (fields_of command.entry).has_globals) }
 {
-    command
-        .arg(flag(alloc, "csv", CSV))?
-        .arg(flag(alloc, "json", JSON))?
-        .arg(flag(alloc, "utc", UTC))
+    with_three(
+        command,
+        flag(alloc, "csv", CSV),
+        flag(alloc, "json", JSON),
+        flag(alloc, "utc", UTC),
+    )
 }
 
 /// The command `measure`, with its help.
@@ -430,10 +457,7 @@ fn measure_command<'a>(alloc: Global) -> Result<Command<'a>, AllocError>
     ensures shape { IfOk result (λ command. shape_of command ≡ measure_shape) }
     ensures own { IfOk result (λ command. (fields_of command).has_globals ≡ false) }
 {
-    let command = Command::new(alloc, "measure")
-        .about(MEASURE_ABOUT)
-        .after_help(MEASURE_HELP)
-        .arg(width_argument(alloc))?;
+    let command = titled(alloc, "measure", MEASURE_ABOUT, MEASURE_HELP).arg(width_argument(alloc))?;
     in_formats(alloc, command)?.arg(flag(alloc, "warn", MEASURE_WARN))
 }
 
@@ -442,9 +466,7 @@ fn dump_command<'a>(alloc: Global) -> Command<'a>
     ensures shape { shape_of result ≡ dump_shape }
     ensures own { (fields_of result).has_globals ≡ false }
 {
-    Command::new(alloc, "dump")
-        .about(DUMP_ABOUT)
-        .after_help(DUMP_HELP)
+    titled(alloc, "dump", DUMP_ABOUT, DUMP_HELP)
 }
 
 /// The command `inspect`, with its help.
@@ -452,10 +474,11 @@ fn inspect_command<'a>(alloc: Global) -> Result<Command<'a>, AllocError>
     ensures shape { IfOk result (λ command. shape_of command ≡ inspect_shape) }
     ensures own { IfOk result (λ command. (fields_of command).has_globals ≡ false) }
 {
-    let command = Command::new(alloc, "inspect")
-        .about(INSPECT_ABOUT)
-        .after_help(INSPECT_HELP)
-        .arg(any_number(alloc, "FILE", "Paths of IPFIX Files; - is standard input"))?;
+    let command = titled(alloc, "inspect", INSPECT_ABOUT, INSPECT_HELP).arg(any_number(
+        alloc,
+        "FILE",
+        "Paths of IPFIX Files; - is standard input",
+    ))?;
     in_formats(alloc, command)
 }
 
@@ -464,17 +487,17 @@ fn sized_command<'a>(alloc: Global) -> Result<Command<'a>, AllocError>
     ensures shape { IfOk result (λ command. shape_of command ≡ sized_shape) }
     ensures own { IfOk result (λ command. (fields_of command).has_globals ≡ false) }
 {
-    Command::new(alloc, "create")
-        .about(CREATE_ABOUT)
-        .after_help(CREATE_HELP)
-        .arg(folder_argument(alloc))?
-        .arg(width_argument(alloc))?
-        .arg(option(
+    with_three(
+        titled(alloc, "create", CREATE_ABOUT, CREATE_HELP),
+        folder_argument(alloc),
+        width_argument(alloc),
+        option(
             alloc,
             "N",
             "limit",
             "Octets of a segment: 65535 to 16777216 [1048576]",
-        ))
+        ),
+    )
 }
 
 /// The command `create`, with its help.
@@ -495,9 +518,7 @@ fn check_command<'a>(alloc: Global) -> Result<Command<'a>, AllocError>
     ensures shape { IfOk result (λ command. shape_of command ≡ check_shape) }
     ensures own { IfOk result (λ command. (fields_of command).has_globals ≡ false) }
 {
-    Command::new(alloc, "check")
-        .about(CHECK_ABOUT)
-        .after_help(CHECK_HELP)
+    titled(alloc, "check", CHECK_ABOUT, CHECK_HELP)
         .arg(several(alloc, "DIR", "Folders of archives"))?
         .arg(flag(alloc, "files", FILES))
 }
@@ -512,16 +533,16 @@ fn span_command<'a>(
     ensures shape { IfOk result (λ command. shape_of command ≡ span_shape name.now) }
     ensures own { IfOk result (λ command. (fields_of command).has_globals ≡ false) }
 {
-    Command::new(alloc, name)
-        .about(about)
-        .after_help(help)
-        .arg(folder_argument(alloc))?
-        .arg(optional(
+    with_three(
+        titled(alloc, name, about, help),
+        folder_argument(alloc),
+        optional(
             alloc,
             "FROM",
             "Starts from it on: seconds since 1970-01-01 00:00 UTC",
-        ))?
-        .arg(optional(alloc, "TO", "Starts before it: up to 4294967296"))
+        ),
+        optional(alloc, "TO", "Starts before it: up to 4294967296"),
+    )
 }
 
 /// The same, also by moments in their place.
@@ -544,10 +565,12 @@ fn records_command<'a>(alloc: Global) -> Result<Command<'a>, AllocError>
     ensures shape { IfOk result (λ command. shape_of command ≡ records_shape) }
     ensures own { IfOk result (λ command. (fields_of command).has_globals ≡ false) }
 {
-    moments_command(alloc, "records", RECORDS_ABOUT, RECORDS_HELP)?
-        .arg(option(alloc, "FIELDS", "csv", FIELDS))?
-        .arg(flag(alloc, "json", JSON))?
-        .arg(flag(alloc, "utc", RECORDS_UTC))
+    with_three(
+        moments_command(alloc, "records", RECORDS_ABOUT, RECORDS_HELP)?,
+        option(alloc, "FIELDS", "csv", FIELDS),
+        flag(alloc, "json", JSON),
+        flag(alloc, "utc", RECORDS_UTC),
+    )
 }
 
 /// A command that asks the archives of folders about a span, with its help.
@@ -560,12 +583,12 @@ fn folders_command<'a>(
     ensures shape { IfOk result (λ command. shape_of command ≡ folders_shape name.now) }
     ensures own { IfOk result (λ command. (fields_of command).has_globals ≡ false) }
 {
-    Command::new(alloc, name)
-        .about(about)
-        .after_help(help)
-        .arg(several(alloc, "DIR", FOLDERS))?
-        .arg(since_argument(alloc))?
-        .arg(until_argument(alloc))
+    with_three(
+        titled(alloc, name, about, help),
+        several(alloc, "DIR", FOLDERS),
+        since_argument(alloc),
+        until_argument(alloc),
+    )
 }
 
 /// The same, and takes a format.
@@ -601,21 +624,21 @@ fn kept_command<'a>(alloc: Global) -> Result<Command<'a>, AllocError>
     ensures shape { IfOk result (λ command. shape_of command ≡ kept_shape) }
     ensures own { IfOk result (λ command. (fields_of command).has_globals ≡ false) }
 {
-    Command::new(alloc, "feed")
-        .about(FEED_ABOUT)
-        .after_help(FEED_HELP)
-        .arg(folder_argument(alloc))?
-        .arg(several(
+    with_three(
+        titled(alloc, "feed", FEED_ABOUT, FEED_HELP),
+        folder_argument(alloc),
+        several(
             alloc,
             "FILE",
             "Paths of 1 to 8 IPFIX Files; - is standard input",
-        ))?
-        .arg(option(
+        ),
+        option(
             alloc,
             "KEEP",
             "keep",
             "Newest segments that aren't rolled: 0 to 4294967295 [8]",
-        ))
+        ),
+    )
 }
 
 /// The same, and one more.
@@ -656,17 +679,17 @@ fn shell_command<'a>(alloc: Global) -> Result<Command<'a>, AllocError>
     ensures shape { IfOk result (λ command. shape_of command ≡ shell_shape) }
     ensures own { IfOk result (λ command. (fields_of command).has_globals ≡ false) }
 {
-    Command::new(alloc, "shell")
-        .about(SHELL_ABOUT)
-        .after_help(SHELL_HELP)
-        .arg(folder_argument(alloc))?
-        .arg(option(
+    with_three(
+        titled(alloc, "shell", SHELL_ABOUT, SHELL_HELP),
+        folder_argument(alloc),
+        option(
             alloc,
             "KEEP",
             "keep",
             "Newest segments that aren't rolled: 0 to 4294967295 [all]",
-        ))?
-        .arg(option(alloc, "LEFT", "merge", MERGE))
+        ),
+        option(alloc, "LEFT", "merge", MERGE),
+    )
 }
 
 /// A command that sums files of an archive but the newest, with its help.
@@ -679,9 +702,7 @@ fn keep_command<'a>(
     ensures shape { IfOk result (λ command. shape_of command ≡ keep_shape name.now) }
     ensures own { IfOk result (λ command. (fields_of command).has_globals ≡ false) }
 {
-    Command::new(alloc, name)
-        .about(about)
-        .after_help(help)
+    titled(alloc, name, about, help)
         .arg(folder_argument(alloc))?
         .arg(needed(
             alloc,
@@ -695,10 +716,11 @@ fn explain_command<'a>(alloc: Global) -> Result<Command<'a>, AllocError>
     ensures shape { IfOk result (λ command. shape_of command ≡ explain_shape) }
     ensures own { IfOk result (λ command. (fields_of command).has_globals ≡ false) }
 {
-    Command::new(alloc, "explain")
-        .about(EXPLAIN_ABOUT)
-        .after_help(EXPLAIN_HELP)
-        .arg(needed(alloc, "NUMBER", "Number of a refusal"))
+    titled(alloc, "explain", EXPLAIN_ABOUT, EXPLAIN_HELP).arg(needed(
+        alloc,
+        "NUMBER",
+        "Number of a refusal",
+    ))
 }
 
 /// The program without its commands, with its help.

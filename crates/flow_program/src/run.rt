@@ -36,7 +36,7 @@ use std::time::Clock;
 /// Runs `measure`.
 fn run_measure<H: AllocGlobal + Wait, R: Read, W: Write, E: Write, P: Write + Drop>(
     rt: &H,
-    width: Width,
+    width: &Width,
     format: Format,
     warn: bool,
     input: &mut R,
@@ -44,7 +44,7 @@ fn run_measure<H: AllocGlobal + Wait, R: Read, W: Write, E: Write, P: Write + Dr
     errors: &mut E,
     progress: &Progress<P>,
 ) -> u8
-    ensures runs { MeasureEnds format width (R.remaining input.old) (R.remaining input.new) (W.contents output.old)
+    ensures runs { MeasureEnds format width.now (R.remaining input.old) (R.remaining input.new) (W.contents output.old)
         (W.contents output.new) (E.contents errors.old) (E.contents errors.new) result }
     ensures quiet { result ≡ 0 → Keeps (E.contents errors.old) (E.contents errors.new) }
     ensures status { result ≤ 5 }
@@ -126,7 +126,7 @@ fn run<
     P: Write + Drop + Send,
 >(
     rt: &'a H,
-    request: Request<'a>,
+    request: &Request<'a>,
     input: &mut R,
     output: &mut W,
     errors: &mut E,
@@ -135,7 +135,7 @@ fn run<
 where
     H::File: FileExt + Lockable + Send + Sync,
     H::Dir: Send + Sync,
-    ensures runs { Runs ⟦<FolderDisk<'a, H> as Disk>⟧ ⟦<FolderView<'a, H> as Disk>⟧ H.File.remaining request.entry
+    ensures runs { Runs ⟦<FolderDisk<'a, H> as Disk>⟧ ⟦<FolderView<'a, H> as Disk>⟧ H.File.remaining request.now
         (R.remaining input.old) (R.remaining input.new) (W.contents output.old) (W.contents output.new)
         (E.contents errors.old) (E.contents errors.new) result }
     ensures quiet { result ≡ 0 → Keeps (E.contents errors.old) (E.contents errors.new) }
@@ -148,20 +148,20 @@ where
             width,
             format,
             warn,
-        } => run_measure(rt, width, format, warn, input, output, errors, progress),
+        } => run_measure(rt, width, *format, *warn, input, output, errors, progress),
         Request::Dump => run_dump(rt.alloc(), input, output, errors),
-        Request::Inspect { format } => run_inspect(rt.alloc(), format, input, output, errors),
+        Request::Inspect { format } => run_inspect(rt.alloc(), *format, input, output, errors),
         Request::InspectFiles { format, files } => {
-            run_inspect_files(rt, format, &files, input, output, errors)
+            run_inspect_files(rt, *format, files, input, output, errors)
         }
-        Request::Create { folder, plan } => run_create(rt, &folder, &plan, errors, progress),
-        Request::Check { folder } => run_check(rt, &folder, first_fault, output, errors),
-        Request::CheckFiles { folder } => run_check_files(rt, &folder, first_fault, output, errors),
+        Request::Create { folder, plan } => run_create(rt, folder, plan, errors, progress),
+        Request::Check { folder } => run_check(rt, folder, first_fault, output, errors),
+        Request::CheckFiles { folder } => run_check_files(rt, folder, first_fault, output, errors),
         Request::CheckSeveral { folders, files } => run_checks(
             rt,
             &FolderViews::new(rt, first_fault),
-            &folders,
-            files,
+            folders,
+            *files,
             output,
             errors,
         ),
@@ -172,11 +172,11 @@ where
             format,
         } => run_totals(
             rt,
-            &folder,
+            folder,
             first_fault,
-            span,
-            workers,
-            format,
+            *span,
+            workers.as_ref(),
+            *format,
             output,
             errors,
         ),
@@ -188,10 +188,10 @@ where
         } => run_several(
             rt,
             &FolderViews::new(rt, first_fault),
-            &folders,
-            span,
-            totals_wanted(each),
-            format,
+            folders,
+            *span,
+            totals_wanted(*each),
+            *format,
             output,
             errors,
         ),
@@ -199,7 +199,7 @@ where
             folder,
             span,
             format,
-        } => run_flows(rt, &folder, first_fault, span, format, output, errors),
+        } => run_flows(rt, folder, first_fault, *span, *format, output, errors),
         Request::FlowsOfSeveral {
             folders,
             span,
@@ -207,10 +207,10 @@ where
         } => run_several(
             rt,
             &FolderViews::new(rt, first_fault),
-            &folders,
-            span,
+            folders,
+            *span,
             Wanted::FlowsOfEach,
-            format,
+            *format,
             output,
             errors,
         ),
@@ -218,40 +218,43 @@ where
             folder,
             span,
             format,
-        } => run_records(rt, &folder, first_fault, span, &format, output, errors),
+        } => run_records(rt, folder, first_fault, *span, format, output, errors),
         Request::Feed {
             folder,
             plan,
             end_on,
             files,
         } => run_feed(
-            rt, &folder, plan, &end_on, &files, input, output, errors, progress,
+            rt, folder, *plan, end_on, files, input, output, errors, progress,
         ),
         Request::Shell {
             folder,
             keep,
             merge,
-        } => run_shell(rt, &folder, first_fault, keep, merge, input, output, errors),
-        Request::Roll { folder, keep } => run_job(
+        } => run_shell(
             rt,
-            &folder,
-            JobKind::Roll,
-            keep,
+            folder,
+            first_fault,
+            *keep,
+            *merge,
+            input,
             output,
             errors,
-            progress,
         ),
+        Request::Roll { folder, keep } => {
+            run_job(rt, folder, JobKind::Roll, *keep, output, errors, progress)
+        }
         Request::Merge { folder, keep } => {
-            run_job(rt, &folder, JobKind::Merge, keep, output, errors, progress)
+            run_job(rt, folder, JobKind::Merge, *keep, output, errors, progress)
         }
         Request::Export { folder, span } => {
-            run_export(rt, &folder, first_fault, &span, output, errors)
+            run_export(rt, folder, first_fault, span, output, errors)
         }
         Request::ExportByTime { folder, span } => {
-            run_export_by_time(rt, &folder, first_fault, span, output, errors)
+            run_export_by_time(rt, folder, first_fault, *span, output, errors)
         }
-        Request::Templates { folder } => run_templates(rt, &folder, first_fault, output, errors),
-        Request::Explain { refusal } => run_explain(rt.alloc(), &refusal, output, errors),
+        Request::Templates { folder } => run_templates(rt, folder, first_fault, output, errors),
+        Request::Explain { refusal } => run_explain(rt.alloc(), refusal, output, errors),
     }
 }
 
@@ -289,7 +292,8 @@ where
 {
     match parse(rt.alloc(), version, words) {
         Ok(request) => {
-            let status = run(rt, request, input, output, errors, progress);
+            let status = run(rt, &request, input, output, errors, progress);
+            drop(request);
             tell_fault(rt, progress);
             status
         }

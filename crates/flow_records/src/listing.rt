@@ -164,6 +164,24 @@ pub fn records<D: Disk, W: Write>(
     }
 }
 
+/// Writes these lines of the archive on a disk, and lets the disk go.
+fn write_listing<D: Disk, W: Write>(
+    alloc: Global,
+    disk: D,
+    span: &StartSpan,
+    format: &LineFormat<'_>,
+    output: &mut W,
+) -> Result<(), ArchiveRefusal>
+    requires { (n : ℕ) → (D.marks disk n).frozen ≡ false }
+    ensures written { OnOk result (Writes (AreRecordsIn format.now span.now.from span.now.to) (W.contents output.old)
+        (W.contents output.new)) }
+    ensures kept { IfErr result
+        (λ e. WritesUpTo (AreRecordsIn format.now span.now.from span.now.to) e (W.contents output.old)
+        (W.contents output.new)) }
+{
+    ended(records(alloc, disk, span, format, output, &mut Faults::new()))
+}
+
 /// Asks the archive of a folder for its records. Nothing of the folder is changed, and others may ask it meanwhile.
 pub fn records_in<H: Files + AllocGlobal + Clone + Drop, W: Write>(
     rt: &H,
@@ -182,6 +200,5 @@ where
         (W.contents output.new)) }
 {
     let view = FolderView::noting(rt, folder, first_fault)?;
-    let faults = &mut Faults::new();
-    ended(records(rt.alloc(), view, span, format, output, faults))
+    write_listing(rt.alloc(), view, span, format, output)
 }

@@ -139,6 +139,28 @@ fn take_sealed(
     Ok(span)
 }
 
+/// Takes a sealed segment in, after nothing: the prefix that the segment after it must have, and when its flows start.
+fn read_taken(
+    carry: &mut Carry,
+    alloc: Global,
+    called: &Option<Vec<u8>>,
+    entry: Entry,
+    octets: &[u8],
+) -> Result<(Vec<u8>, PartSpan), OpenError>
+    requires new { carry.old ≡ no_carry 0 }
+    requires whole { length octets.now ≡ entry.length }
+    ensures found { IfOk result (λ r. (p : Part) × (carry : Carry) × IsSealedAt octets.now entry p
+        × IsCalled called.now p.front × IsSegment p carry × IsOwnSpan p.front p.messages r.1
+        × (r.0.items ≡ prefix_of carry)) }
+    ensures refused { (p : Part) (whole : Carry) → IsSealedAt octets.now entry p → IsCalled called.now p.front
+        → IsSegment p whole → IfErr result (λ e. e ≡ OpenError.OutOfMemory) }
+    ensures device { IfErr result (λ e. e ≢ OpenError.Fault) }
+{
+    let span = take_sealed(carry, alloc, called, entry, octets)?;
+    let next = carry.prefix(alloc)?;
+    Ok((next, span))
+}
+
 /// The prefix that the segment after the sealed one with these octets must have, and when the flows of the sealed one
 /// start. The sealed one's own prefix must be `called` if it isn't the first segment.
 fn read_sealed(
@@ -156,9 +178,9 @@ fn read_sealed(
     ensures device { IfErr result (λ e. e ≢ OpenError.Fault) }
 {
     let mut carry = Carry::new(alloc);
-    let span = take_sealed(&mut carry, alloc, called, entry, octets)?;
-    let next = carry.prefix(alloc)?;
-    Ok((next, span))
+    let read = read_taken(&mut carry, alloc, called, entry, octets);
+    drop(carry);
+    read
 }
 
 /// Looks whether octets are the rolled file of some sums by a width, and answers when their intervals start.

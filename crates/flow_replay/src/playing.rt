@@ -163,8 +163,13 @@ fn with_stage<D: Disk>(
     lines: &[Line<'_>],
     report: &mut Report,
 ) -> Result<D, AllocError> {
-    answer_part(alloc, &mut stage, wear, name, first, lines, report)?;
-    Ok(stage.into_disk())
+    match answer_part(alloc, &mut stage, wear, name, first, lines, report) {
+        Ok(()) => Ok(stage.into_disk()),
+        Err(refused) => {
+            drop(stage);
+            Err(refused)
+        }
+    }
 }
 
 /// A part with an archive, on a disk that has this damage: the disk, and whether the part is played.

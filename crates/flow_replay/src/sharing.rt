@@ -255,5 +255,6 @@ pub(crate) fn share<W: Wait>(
             break;
         }
     }
+    drop(archive);
     Err(AllocError)
 }

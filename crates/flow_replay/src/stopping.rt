@@ -193,13 +193,18 @@ fn run_lines<D: Disk>(
     mut stage: Stage<D>,
     lines: &[Line<'_>],
 ) -> Result<Ended<D>, AllocError> {
-    let until = given_until(alloc, &mut stage, lines)?;
-    Ok(Ended {
-        taken: until.taken,
-        is_stopped: until.is_stopped,
-        is_closed: until.is_closed,
-        disk: stage.into_disk(),
-    })
+    match given_until(alloc, &mut stage, lines) {
+        Ok(until) => Ok(Ended {
+            taken: until.taken,
+            is_stopped: until.is_stopped,
+            is_closed: until.is_closed,
+            disk: stage.into_disk(),
+        }),
+        Err(refused) => {
+            drop(stage);
+            Err(refused)
+        }
+    }
 }
 
 /// Makes or opens an archive, and gives lines to it until one meets a fault.
@@ -227,7 +232,9 @@ pub(crate) fn last_state<D: Disk>(
     alloc: Global,
     mut stage: Stage<D>,
 ) -> Result<String, AllocError> {
-    stage.state(alloc)
+    let state = stage.state(alloc);
+    drop(stage);
+    state
 }
 
 /// The state of the archive on a disk, or why none is opened.
@@ -266,7 +273,9 @@ fn add_all_of<D: Disk>(
     given: Given<'_, '_>,
     states: &mut Vec<String>,
 ) -> Result<(), AllocError> {
-    add_all(alloc, &mut stage, given, states)
+    let added = add_all(alloc, &mut stage, given, states);
+    drop(stage);
+    added
 }
 
 /// Adds the states of an archive: at once, and after each event of these lines.

@@ -53,17 +53,11 @@ fn add_messages<R: Read>(
     Ok(lacking.losses())
 }
 
-/// Adds the flows of the File that `input` reads to sums of none, and answers what its messages show of records that
-/// aren't read.
-fn add_file<R: Read>(
-    alloc: Global,
-    input: &mut R,
-    sums: &mut CountedTotals,
-) -> Result<Losses, Refusal>
-    requires { sums.old.totals.rows ≡ empty_table sums.old.totals.rows.width }
-    ensures sums { OnOk result (IfSome (R.remaining input.old)
-        (λ octets. HasSums sums.old.totals.rows.width octets sums.new.totals.rows)) }
-    ensures losses { IfOk result (λ losses. IfSome (R.remaining input.old) (λ octets. HasLosses octets losses)) }
+/// The sums of all flows of the File that `input` reads, over intervals of this width, and what its messages show of
+/// records that aren't read.
+fn sums_of<R: Read>(alloc: Global, width: &Width, input: &mut R) -> Result<(Rows, Losses), Refusal>
+    ensures sums { IfOk result (λ x. IfSome (R.remaining input.old) (λ octets. HasSums width.now octets x.0)) }
+    ensures losses { IfOk result (λ x. IfSome (R.remaining input.old) (λ octets. HasLosses octets x.1)) }
     ensures refused { IfErr result (λ e. IfSome (R.remaining input.old)
         (λ octets. IsRefusedBy octets (R.remaining input.new) e)) }
     ensures unwritten { IfErr result (λ e. IsOfInput e) }
@@ -71,33 +65,30 @@ fn add_file<R: Read>(
     let mut reader = MessageReader::new(alloc)?;
     let mut templates = Templates::new(alloc);
     let mut lacking = Lacking::new(alloc);
-    add_messages(
-        alloc,
-        input,
-        &mut reader,
-        &mut templates,
-        &mut lacking,
-        sums,
-    )
-}
-
-/// The sums of all flows of the File that `input` reads, over intervals of this width, and what its messages show of
-/// records that aren't read.
-fn sums_of<R: Read>(alloc: Global, width: Width, input: &mut R) -> Result<(Rows, Losses), Refusal>
-    ensures sums { IfOk result (λ x. IfSome (R.remaining input.old) (λ octets. HasSums width octets x.0)) }
-    ensures losses { IfOk result (λ x. IfSome (R.remaining input.old) (λ octets. HasLosses octets x.1)) }
-    ensures refused { IfErr result (λ e. IfSome (R.remaining input.old)
-        (λ octets. IsRefusedBy octets (R.remaining input.new) e)) }
-    ensures unwritten { IfErr result (λ e. IsOfInput e) }
-{
     let mut sums = CountedTotals {
         totals: Totals {
             rows: Rows::new(alloc, width.seconds()),
         },
         records: 0,
     };
-    let losses = add_file(alloc, input, &mut sums)?;
-    Ok((sums.totals.rows, losses))
+    let added = add_messages(
+        alloc,
+        input,
+        &mut reader,
+        &mut templates,
+        &mut lacking,
+        &mut sums,
+    );
+    drop(reader);
+    drop(templates);
+    drop(lacking);
+    match added {
+        Ok(losses) => Ok((sums.totals.rows, losses)),
+        Err(refused) => {
+            drop(sums);
+            Err(refused)
+        }
+    }
 }
 
 /// Why a run stops at the message of this number.
@@ -141,14 +132,14 @@ fn write_totals<W: Write>(
 /// records that aren't read.
 pub fn measure<R: Read, W: Write>(
     alloc: Global,
-    width: Width,
+    width: &Width,
     format: Format,
     input: &mut R,
     output: &mut W,
 ) -> Result<Losses, Refusal>
     // The lines are those of a whole File.
     ensures lines { OnOk result
-        (IfSome (R.remaining input.old) (λ octets. (lines : List ℕ) × HasTotals format width octets lines
+        (IfSome (R.remaining input.old) (λ octets. (lines : List ℕ) × HasTotals format width.now octets lines
         × Appends (W.contents output.old) (W.contents output.new) lines)) }
     // What is answered is what the messages of the whole File show.
     ensures losses { IfOk result (λ losses. IfSome (R.remaining input.old) (λ octets. HasLosses octets losses)) }
@@ -157,7 +148,7 @@ pub fn measure<R: Read, W: Write>(
         (λ octets. IsRefusedBy octets (R.remaining input.new) e)) }
     // After one nothing is written, or, where writing failed, a prefix of the lines.
     ensures kept { IfErr result
-        (λ e. KeepsOrFront format width (R.remaining input.old) (W.contents output.old) (W.contents output.new) e) }
+        (λ e. KeepsOrFront format width.now (R.remaining input.old) (W.contents output.old) (W.contents output.new) e) }
 {
     let (rows, losses) = sums_of(alloc, width, input)?;
     let mut lines = HeldText::new(alloc)?;

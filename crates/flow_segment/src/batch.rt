@@ -12,6 +12,7 @@ use flow_codec::{Losses, MessageError, Templates};
 use flow_measure::PartSpan;
 use indexmap::IndexMap;
 use std::alloc::{AllocError, Global};
+use std::mem;
 
 /// What was carried before a batch: the numbers, the Export Time, what was counted, and the templates, of which a
 /// copy is made only where a message may define some. Until then those in force are those of before.
@@ -29,7 +30,8 @@ fn keep_before(undo: &mut Undo, carry: &Carry, octets: &[u8]) -> Result<(), Allo
     ensures same { restored carry.now.templates undo.new ≡ restored carry.now.templates undo.old }
 {
     if undo.templates.is_none() && may_define(octets) {
-        undo.templates = Some(carry.copied_templates()?);
+        let copy = carry.copied_templates()?;
+        drop(mem::replace(&mut undo.templates, Some(copy)));
     }
     Ok(())
 }

@@ -120,12 +120,19 @@ impl Carry {
     pub fn try_copy(&self) -> Result<Self, AllocError>
         ensures { IfOk result (λ copy. copy ≡ self.now) }
     {
-        Ok(Carry {
-            templates: self.templates.try_copy()?,
-            due: self.due.clone()?,
-            time: self.time,
-            losses: self.losses,
-        })
+        let templates = self.templates.try_copy()?;
+        match self.due.clone() {
+            Ok(due) => Ok(Carry {
+                templates,
+                due,
+                time: self.time,
+                losses: self.losses,
+            }),
+            Err(refused) => {
+                drop(templates);
+                Err(refused)
+            }
+        }
     }
 
     /// What the messages that were taken in show of records that aren't read, or are summed otherwise, counted from what
@@ -167,9 +174,9 @@ impl Carry {
         ensures { self.new ≡ restored self.old.templates undo }
     {
         if let Some(templates) = undo.templates.take() {
-            self.templates = templates;
+            drop(mem::replace(&mut self.templates, templates));
         }
-        self.due = undo.due;
+        drop(mem::replace(&mut self.due, undo.due));
         self.time = undo.time;
         self.losses = undo.losses;
     }

@@ -140,6 +140,11 @@ pub fn flows_of<S: SealedFile>(
     let mut templates = templates_of(alloc, part, faults)?;
     let mut flows = Flows::new(alloc);
     let mut window = Window::new(alloc, part.prefix, part.length);
-    walk_part(alloc, part, &mut window, &mut templates, &mut flows, faults)?;
-    Ok(flows.flows)
+    let walked = walk_part(alloc, part, &mut window, &mut templates, &mut flows, faults);
+    drop(window);
+    drop(templates);
+    match walked {
+        Ok(_) => Ok(flows.flows),
+        Err(refused) => Err(refused),
+    }
 }

@@ -1,6 +1,6 @@
 //! The templates that the prefix of a sealed segment restates.
 
-ghost use Rattle.std.specs.Prelude.{◌≡◌, ◌≤◌, IsTrue, IfOk, IfErr};
+ghost use Rattle.std.specs.Prelude.{◌≡◌, ◌≤◌, [], IsTrue, IfOk, IfErr, OnOk};
 ghost use Rattle.flow_disk.specs.Cause.{HasCause};
 ghost use Rattle.flow_codec.specs.Templates.{AllTemplates};
 ghost use Rattle.flow_segment.specs.Prefix.{AreTemplatesGiven, IsPrefixToldOf, IsRestated, IsRestating};
@@ -91,30 +91,38 @@ pub fn templates_of<S: SealedFile>(
         → IsRestated (part_octets 0 part.now.prefix (S.octets part.now.reader)) all
         → AreTemplatesGiven all result }
 {
-    read_prefix(alloc, part, faults)
+    let mut templates = Templates::new(alloc);
+    match read_prefix(alloc, part, faults, &mut templates) {
+        Ok(()) => Ok(templates),
+        Err(refused) => {
+            drop(templates);
+            Err(refused)
+        }
+    }
 }
 
-/// Reads the prefix, message by message.
+/// Reads the prefix, message by message, where no template is in force before.
 fn read_prefix<S: SealedFile>(
     alloc: Global,
     part: &SealedPart<S>,
     faults: &mut Faults<S>,
-) -> Result<Templates, ReadRefusal>
+    templates: &mut Templates,
+) -> Result<(), ReadRefusal>
+    requires { templates.old ≡ [] }
     ensures cause { HasCause ReadRefusal.Fault faults.old faults.new result }
     // On an honest disk: the templates that accepted messages without data records leave; or why there are none.
-    ensures found { IsTrue (S.honest part.now.reader) → IfOk result
-        (λ templates. IsRestated (part_octets 0 part.now.prefix (S.octets part.now.reader)) templates) }
+    ensures found { IsTrue (S.honest part.now.reader) → OnOk result
+        (IsRestated (part_octets 0 part.now.prefix (S.octets part.now.reader)) templates.new) }
     ensures told { IsTrue (S.honest part.now.reader) → IfErr result
         (λ e. IsPrefixToldOf (part_octets 0 part.now.prefix (S.octets part.now.reader))
         (S.number part.now.reader) e) }
 {
     let mut window = Window::new(alloc, 0, part.prefix);
-    let mut templates = Templates::new(alloc);
     'messages: loop {
         let at = window.place();
         if !advance(&mut window, &part.reader, faults)? {
-            return Ok(templates);
+            return Ok(());
         }
-        restate(&mut templates, alloc, window.held(), part.reader.file(), at)?;
+        restate(templates, alloc, window.held(), part.reader.file(), at)?;
     }
 }

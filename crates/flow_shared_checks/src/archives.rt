@@ -53,8 +53,13 @@ fn sealed<D: Disk>(alloc: Global, disk: D) -> Result<Archive<D>, ArchiveError>
     requires { (n : ℕ) → (D.marks disk n).frozen ≡ false }
 {
     let mut archive = created(alloc, disk)?;
-    put(&mut archive, alloc)?;
-    Ok(archive)
+    match put(&mut archive, alloc) {
+        Ok(()) => Ok(archive),
+        Err(refused) => {
+            drop(archive);
+            Err(refused)
+        }
+    }
 }
 
 /// One on a disk in memory.

@@ -85,8 +85,12 @@ where
 {
     let is_so = is_so(rt, alloc, &shared, readers, trial);
     let snapshot = first(readers);
-    let is_open = !shared.end(rt).is_closed();
-    [is_so, is_open, is_left(readers, &snapshot, trial)]
+    let ended = shared.end(rt);
+    let is_open = !ended.is_closed();
+    drop(ended);
+    let is_left = is_left(readers, &snapshot, trial);
+    drop(snapshot);
+    [is_so, is_open, is_left]
 }
 
 /// Lets threads share an archive, with 16 readers, and tries it; none where they can't. What is sent to a thread has
@@ -108,9 +112,13 @@ where
         Ok((shared, readers)) => {
             let mut readers = readers;
             let ended = tried_and_ended(rt, alloc, shared, readers.as_mut_slice(), trial);
+            drop(readers);
             Some(ended)
         }
-        Err(_) => None,
+        Err(refused) => {
+            drop(refused);
+            None
+        }
     }
 }
 
@@ -139,7 +147,9 @@ fn places_enter(rt: HostRuntime) -> Result<(), Fail> {
 /// Whether workers meet over an archive in memory.
 fn meet_in_memory<R: Threads + Sync>(rt: &R, alloc: Global) -> Result<bool, ArchiveError> {
     let mut archive = in_memory(alloc)?;
-    Ok(meet_over(rt, alloc, &mut archive))
+    let are_met = meet_over(rt, alloc, &mut archive);
+    drop(archive);
+    Ok(are_met)
 }
 
 #[test]

@@ -87,6 +87,7 @@ where
     let lines: Lines<K, Brand, BufReader<&mut R>> = Lines::new(input, Vec::new(alloc));
     let bell: Bell<K> = Bell::new(keep, merge);
     let (status, refused) = serve_beside(rt, shared, &bell, limit, &mut asking, lines, output);
+    drop(asking);
     ended(status, refused)
 }
 
@@ -136,6 +137,7 @@ where
         output,
     );
     shared.end(rt).into_disk().leave(rt.alloc());
+    drop(readers);
     served
 }
 

@@ -54,6 +54,24 @@ pub(crate) fn rows_of_both(
         (λ rows. rows.items ≡ rows_of_both from to narrow wide.now) result }
     ensures quiet { IfErr result (λ e. e ≢ ReadRefusal.Fault) }
 {
+    let rows = rows_within(alloc, from, to, &mut narrow, wide, first);
+    drop(narrow);
+    rows
+}
+
+/// The same, where the narrow table may have the sums of both afterwards.
+fn rows_within(
+    alloc: Global,
+    from: u64,
+    to: u64,
+    narrow: &mut Rows,
+    wide: &Rows,
+    first: u64,
+) -> Result<Vec<Row>, ReadRefusal>
+    ensures made { IsMade first (narrow.old.width ≡ wide.now.width → AllFit (merged narrow.old wide.now))
+        (λ rows. rows.items ≡ rows_of_both from to narrow.old wide.now) result }
+    ensures quiet { IfErr result (λ e. e ≢ ReadRefusal.Fault) }
+{
     if narrow.width() != wide.width() {
         let rows = narrow.in_span(alloc, from, to)?;
         let others = wide.in_span(alloc, from, to)?;

@@ -74,6 +74,28 @@ pub(crate) fn hand_over<R: RecordSink<Error = AllocError>>(
     }
 }
 
+/// Takes in the messages of a prefix in memory, where no template is in force before.
+fn take_prefix(alloc: Global, templates: &mut Templates, prefix: &[u8]) -> Result<(), ReadRefusal>
+    requires { templates.old ≡ [] }
+    ensures found { OnOk result (IsRestated prefix.now templates.new) }
+    ensures given { (all : AllTemplates) → IsRestated prefix.now all
+        → IsAnswered (λ _. templates.new ≡ all) result }
+    ensures quiet { IfErr result (λ e. e ≢ ReadRefusal.Fault) }
+{
+    let mut rest = prefix;
+    'messages: while !rest.is_empty() {
+        let Ok(length) = front_of(0, rest) else {
+            return Err(NO_MESSAGE);
+        };
+        let (message, more) = rest.split_at(length);
+        if take_in(alloc, templates, message)? {
+            return Err(NO_MESSAGE);
+        }
+        rest = more;
+    }
+    Ok(())
+}
+
 /// The templates that a prefix in memory restates. One with data records is refused.
 pub fn restated(alloc: Global, prefix: &[u8]) -> Result<Templates, ReadRefusal>
     ensures found { IfOk result (λ templates. IsRestated prefix.now templates) }
@@ -82,18 +104,13 @@ pub fn restated(alloc: Global, prefix: &[u8]) -> Result<Templates, ReadRefusal>
     ensures quiet { IfErr result (λ e. e ≢ ReadRefusal.Fault) }
 {
     let mut templates = Templates::new(alloc);
-    let mut rest = prefix;
-    'messages: while !rest.is_empty() {
-        let Ok(length) = front_of(0, rest) else {
-            return Err(NO_MESSAGE);
-        };
-        let (message, more) = rest.split_at(length);
-        if take_in(alloc, &mut templates, message)? {
-            return Err(NO_MESSAGE);
+    match take_prefix(alloc, &mut templates, prefix) {
+        Ok(()) => Ok(templates),
+        Err(refused) => {
+            drop(templates);
+            Err(refused)
         }
-        rest = more;
     }
-    Ok(templates)
 }
 
 /// Appends the flows of a sealed segment's messages that start from `from` on and before `to` to a list. They are read

@@ -1,7 +1,7 @@
 use Rattle.std.proofs.Common.{◌≡◌, ◌-◌, ◌≤◌, length, take, drop, IsTrue, sym, ◌∙◌, ap, subst, arith}
 use Rattle.std.proofs.lemmas.List.{take_rest}
 use Rattle.flow_disk.specs.Disk.{Held}
-use Rattle.flow_gate.proofs.Reading.{found_in, told_in, given_in, refused_in, whole_in, named_in, looked_again}
+use Rattle.flow_gate.proofs.Reading.{found_in, told_in, given_in, refused_in, whole_in, named_in, looked, looked_again}
 use Rattle.flow_gate.proofs.walk.scan.Goals as goal
 
 pub returns-clause-whole : goal.returns-clause-whole
@@ -96,6 +96,29 @@ returns-clause-refused g c h at damaged =
 
 pub returns-clause-any_moment : goal.returns-clause-any_moment
 returns-clause-any_moment g c h =
+    let D = g.D.Disk in
+    let d = c.args.disk.now in
+    let mid = c.length.new.self in
+    let h1 = subst IsTrue (sym c.length.ensures.honest) h in
+    looked_again D d mid (λ image left. g.met.D.Disk.only_now d image h left)
+    (c.length.ensures.time h) c.read.new.self (c.length.ensures.held h) (c.read.ensures.time h1)
+
+pub returns-in_err-size-clause-any_moment : goal.returns-in_err-size-clause-any_moment
+returns-in_err-size-clause-any_moment g c h =
+    let D = g.D.Disk in
+    let d = c.args.disk.now in
+    let mid = c.length.new.self in
+    looked D d mid (λ image left. g.met.D.Disk.only_now d image h left) (c.length.ensures.time h)
+
+pub returns-then-from-size-clause-any_moment : goal.returns-then-from-size-clause-any_moment
+returns-then-from-size-clause-any_moment g c h =
+    let D = g.D.Disk in
+    let d = c.args.disk.now in
+    let mid = c.length.new.self in
+    looked D d mid (λ image left. g.met.D.Disk.only_now d image h left) (c.length.ensures.time h)
+
+pub returns-in_err-octets-clause-any_moment : goal.returns-in_err-octets-clause-any_moment
+returns-in_err-octets-clause-any_moment g c h =
     let D = g.D.Disk in
     let d = c.args.disk.now in
     let mid = c.length.new.self in

@@ -1,13 +1,8 @@
-use Rattle.flow_program.proofs.Adding.{same_globals, with_three}
+use Rattle.std.proofs.Common.{refl}
+use Rattle.flow_program.proofs.Adding.{three_more}
 use Rattle.flow_program.proofs.grammar.in_formats.Goals as goal
 
 pub returns-clause-shape : goal.returns-clause-shape
 returns-clause-shape c =
-    with_three _ _ _ _ _ _ _ _ _ c.arg-3.result c.in_ok-arg.ensures c.in_ok-arg-2.ensures c.arg-3.ensures
-    (c.flag.ensures.own, c.flag-2.ensures.own, c.flag-3.ensures.own)
-    (c.flag.ensures.rule, c.flag-2.ensures.rule, c.flag-3.ensures.rule)
-
-pub returns-clause-own : goal.returns-clause-own
-returns-clause-own c =
-    same_globals _ _ _ _ _ _ c.arg-3.result c.in_ok-arg.ensures c.in_ok-arg-2.ensures c.arg-3.ensures
-    (c.flag.ensures.own, c.flag-2.ensures.own, c.flag-3.ensures.own)
+    three_more _ _ _ _ _ _ _ _ c.with_three.result refl
+    c.flag.ensures.rule c.flag-2.ensures.rule c.flag-3.ensures.rule c.with_three.ensures.shape

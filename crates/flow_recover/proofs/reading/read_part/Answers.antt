@@ -1,6 +1,7 @@
 use Rattle.std.proofs.Common.{◌≡◌, inr, ℕ, IsTrue, List, length, take, sym, ◌∙◌, ap, subst, arith, length-take}
 use Rattle.std.proofs.lemmas.List.{take-take}
-use Rattle.flow_disk.specs.Disk.{Held}
+use Rattle.flow_disk.specs.Disk.{Held, IsDiskImage, IsImage}
+use Rattle.flow_disk.proofs.Moments.{goes_on, started}
 use Rattle.flow_disk.proofs.Results.{if_ok_by, if_err_by}
 use Rattle.flow_segment.specs.Steps.{KeepsFront}
 use Rattle.flow_model.specs.Standing.{StandsAs}
@@ -84,3 +85,49 @@ returns-clause-spanned g c h =
     (λ r is p stands. is p (subst (λ (l : List ℕ). StandsAs e.kind l e p) (sym read)
     (part_cut e.kind e.length reads (take e.length reads) e p (omega arith) (all_to_front e.length reads) stands)))
     c.kept_of.ensures.spanned
+
+pub returns-in_err-size-clause-any_moment : goal.returns-in_err-size-clause-any_moment
+returns-in_err-size-clause-any_moment g c h =
+    let D = g.D.Disk in
+    let d0 = c.args.disk.now in
+    let P = IsDiskImage (D.held d0) in
+    goes_on D d0 d0 c.length.new.self P (D.held d0)
+    (started D d0 P (λ image left. g.met.D.Disk.only_now d0 image h left)) (c.length.ensures.time h) (λ image is. is)
+
+pub returns-then-entry-size-clause-any_moment : goal.returns-then-entry-size-clause-any_moment
+returns-then-entry-size-clause-any_moment g c h =
+    let D = g.D.Disk in
+    let d0 = c.args.disk.now in
+    let P = IsDiskImage (D.held d0) in
+    goes_on D d0 d0 c.length.new.self P (D.held d0)
+    (started D d0 P (λ image left. g.met.D.Disk.only_now d0 image h left)) (c.length.ensures.time h) (λ image is. is)
+
+pub returns-in_err-lengthen-clause-any_moment : goal.returns-in_err-lengthen-clause-any_moment
+returns-in_err-lengthen-clause-any_moment g c h =
+    let D = g.D.Disk in
+    let d0 = c.args.disk.now in
+    let P = IsDiskImage (D.held d0) in
+    goes_on D d0 d0 c.length.new.self P (D.held d0)
+    (started D d0 P (λ image left. g.met.D.Disk.only_now d0 image h left)) (c.length.ensures.time h) (λ image is. is)
+
+pub returns-in_err-read_into-clause-any_moment : goal.returns-in_err-read_into-clause-any_moment
+returns-in_err-read_into-clause-any_moment g c h =
+    let D = g.D.Disk in
+    let d0 = c.args.disk.now in
+    let P = IsDiskImage (D.held d0) in
+    let looked = goes_on D d0 d0 c.length.new.self P (D.held d0)
+    (started D d0 P (λ image left. g.met.D.Disk.only_now d0 image h left)) (c.length.ensures.time h) (λ image is. is) in
+    let h1 = subst IsTrue (sym c.length.ensures.honest) h in
+    goes_on D d0 c.length.new.self c.read_into.new.self P (D.held c.length.new.self) looked (c.read_into.ensures.time h1)
+    (λ image is n. subst (λ (f : Held). IsImage f (image n)) (c.length.ensures.held h n) (is n))
+
+pub returns-clause-any_moment : goal.returns-clause-any_moment
+returns-clause-any_moment g c h =
+    let D = g.D.Disk in
+    let d0 = c.args.disk.now in
+    let P = IsDiskImage (D.held d0) in
+    let looked = goes_on D d0 d0 c.length.new.self P (D.held d0)
+    (started D d0 P (λ image left. g.met.D.Disk.only_now d0 image h left)) (c.length.ensures.time h) (λ image is. is) in
+    let h1 = subst IsTrue (sym c.length.ensures.honest) h in
+    goes_on D d0 c.length.new.self c.read_into.new.self P (D.held c.length.new.self) looked (c.read_into.ensures.time h1)
+    (λ image is n. subst (λ (f : Held). IsImage f (image n)) (c.length.ensures.held h n) (is n))

@@ -1,6 +1,5 @@
 use Rattle.std.proofs.Common.{◌∙◌}
 use Rattle.flow_refusals.specs.declared.read_refusal.ReadRefusal.{ReadRefusal}
-use Rattle.flow_codec.specs.Templates.{AllTemplates}
 use Rattle.flow_segment.specs.Prefix.{IsPrefixToldOf}
 use Rattle.flow_segment.specs.Segment.{part_octets}
 use Rattle.flow_segment.proofs.Carrying.{err_of}
@@ -27,7 +26,7 @@ pub returns-in_err-restate-clause-told : goal.returns-in_err-restate-clause-told
 returns-in_err-restate-clause-told g c = λ h.
     let S = g.S.SealedFile in
     let file = c.args.part.now.reader in
-    err_of {X = AllTemplates} {E = ReadRefusal} c.from_residual-in_err-restate.result c.in_err-restate.field-0.0
+    err_of {X = Unit {0}} {E = ReadRefusal} c.from_residual-in_err-restate.result c.in_err-restate.field-0.0
     (λ e. IsPrefixToldOf (part_octets 0 c.args.part.now.prefix (S.octets file)) (S.number file) e)
     c.from_residual-in_err-restate.ensures.1
     (prefix_told (S.honest file) (S.octets file) c.args.part.now.prefix (S.number file) c.file.result

@@ -1,7 +1,7 @@
 use Rattle.std.proofs.Common.{◌-◌, ◌^◌}
 use Rattle.flow_codec.specs.Stream.{progress}
 use Rattle.flow_inspect.proofs.Following.{HasInspected}
-use Rattle.flow_inspect.proofs.inspecting.reports_of.Given as goal
+use Rattle.flow_inspect.proofs.inspecting.add_messages.Given as goal
 
 abbrev pub invariant-messages : goal.invariant-messages
 invariant-messages g l = HasInspected (g.R.Read.remaining l.initial.input)

@@ -1,7 +1,7 @@
 use Rattle.std.proofs.Common.{◌≡◌, ◌≢◌, refl}
 use Rattle.flow_disk.proofs.Results.{passed_on}
 use Rattle.flow_manifest.specs.declared.error.OpenError.TheVariants.{Fault, OutOfMemory}
-use Rattle.flow_recover.proofs.chaining.read_sealed.Goals as goal
+use Rattle.flow_recover.proofs.chaining.read_taken.Goals as goal
 
 differs : OutOfMemory ≢ Fault
 differs same = cc

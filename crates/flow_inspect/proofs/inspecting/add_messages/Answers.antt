@@ -6,13 +6,13 @@ use Rattle.flow_report.proofs.Reached.{opened}
 use Rattle.flow_report.proofs.Summing.{err_of, short_at}
 use Rattle.flow_inspect.specs.Counting.{HasCounted}
 use Rattle.flow_inspect.proofs.Following.{always, begun, ended, ended_by, nothing, stepped, stopped_at}
-use Rattle.flow_inspect.proofs.inspecting.reports_of.Goals as goal
+use Rattle.flow_inspect.proofs.inspecting.add_messages.Goals as goal
 
 pub messages-init : goal.messages-init
 messages-init g c =
-    begun (g.R.Read.remaining c.args.input.now) (progress c.in_ok-reader.reader (g.R.Read.remaining c.args.input.now))
-    c.new-templates.result c.new-reports.result.entries (opened _ _ c.in_ok-reader.ensures) c.new-templates.ensures
-    c.new-reports.ensures.empty
+    begun (g.R.Read.remaining c.args.input.now) (progress c.args.reader.now (g.R.Read.remaining c.args.input.now))
+    c.args.templates.now c.args.reports.now.entries (opened _ _ c.requires.opened) c.requires.undefined
+    c.requires.none
 
 pub messages-preserved : goal.messages-preserved
 messages-preserved g c =
@@ -39,7 +39,7 @@ returns-clause-reports g c =
 
 pub returns-in_err-advance-clause-refused : goal.returns-in_err-advance-clause-refused
 returns-in_err-advance-clause-refused g c =
-    err_of c.from_residual-in_err-advance.result _ _ c.from_residual-in_err-advance.ensures.1
+    err_of c.from_residual.result _ _ c.from_residual.ensures.1
     (ended_by (g.R.Read.remaining c.args.input.now) _ c.advance.new.self.ahead
     (progress c.messages.reader (g.R.Read.remaining c.messages.input))
     (progress c.advance.new.self (g.R.Read.remaining c.advance.new.input)) c.messages.templates

@@ -3,7 +3,7 @@ use Rattle.flow_codec.specs.Templates.{AllTemplates}
 use Rattle.flow_segment.specs.Prefix.{IsRestated}
 use Rattle.flow_snapshot.proofs.Finding.{IsReadSoFar}
 use Rattle.flow_snapshot.proofs.KeptFlows.{IsStillRestated}
-use Rattle.flow_snapshot.proofs.kept.restated.Given as goal
+use Rattle.flow_snapshot.proofs.kept.take_prefix.Given as goal
 
 -- the messages so far were read, and what is left restates the templates after them
 abbrev pub invariant-messages : goal.invariant-messages

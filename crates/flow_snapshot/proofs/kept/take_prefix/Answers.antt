@@ -2,7 +2,7 @@ use Rattle.std.proofs.Common.{length, subst, sym}
 use Rattle.flow_snapshot.proofs.Finding.{none_read, one_read, seen_twice, whole_prefix}
 use Rattle.flow_snapshot.proofs.KeptFlows.{no_fault_left, none_left, nothing_left, restated_err, restated_step}
 use Rattle.flow_snapshot.proofs.KeptFlows.{none_seen_left, some_left, still_restated, IsStillRestated}
-use Rattle.flow_snapshot.proofs.kept.restated.Goals as goal
+use Rattle.flow_snapshot.proofs.kept.take_prefix.Goals as goal
 
 pub returns-in_default-clause-given : goal.returns-in_default-clause-given
 returns-in_default-clause-given c = λ all is.
@@ -40,8 +40,8 @@ returns-in_err-take_in-clause-given c = λ all is.
 
 pub messages-init : goal.messages-init
 messages-init c = record {
-  found = none_read c.args.prefix.now c.new-templates.result c.new-templates.ensures;
-  given = λ all is. subst (λ templates. IsStillRestated c.args.prefix.now templates all) (sym c.new-templates.ensures)
+  found = none_read c.args.prefix.now c.args.templates.now c.requires;
+  given = λ all is. subst (λ templates. IsStillRestated c.args.prefix.now templates all) (sym c.requires)
       (still_restated c.args.prefix.now all is);
 }
 

@@ -1,6 +1,6 @@
 use Rattle.std.proofs.Common.{◌≢◌, ◌∙◌, sym}
 use Rattle.flow_snapshot.proofs.BothRows.{two_tables}
-use Rattle.flow_snapshot.proofs.interleaving.rows_of_both.Goals as goal
+use Rattle.flow_snapshot.proofs.interleaving.rows_within.Goals as goal
 
 pub returns-then-width-clause-made : goal.returns-then-width-clause-made
 returns-then-width-clause-made c =
@@ -10,6 +10,6 @@ returns-then-width-clause-made c =
       c.in_ok-rows.ensures,
       c.in_ok-others.ensures,
     ) at c.in_ok-interleaved.ensures in
-    let differ : c.args.narrow.width ≢ c.args.wide.now.width = λ same. c.if-width.true
+    let differ : c.args.narrow.now.width ≢ c.args.wide.now.width = λ same. c.if-width.true
     (c.width.ensures.width ∙ same ∙ sym c.width-2.ensures.width) in
-    two_tables c.args.from c.args.to c.args.narrow c.args.wide.now c.in_ok-interleaved.field-0.items differ made
+    two_tables c.args.from c.args.to c.args.narrow.now c.args.wide.now c.in_ok-interleaved.field-0.items differ made
