@@ -5,12 +5,11 @@ use Rattle.std.proofs.Common.{Vec, get_or, zero, suc, Option}
 use Rattle.std.specs.declared.alloc.Global.{Global}
 use Rattle.std.proofs.lemmas.List.{drop-drop, length-append, length-drop, length-take-le}
 use Rattle.std.proofs.lemmas.List.{take-append-drop}
-use Rattle.flow_codec.specs.declared.file.FileError.{FileError}
-use Rattle.flow_codec.specs.Cutting.{IsCutOff, IsFileFault}
+use Rattle.flow_codec.specs.Cutting.{IsCutOff}
 use Rattle.flow_codec.specs.Message.{joined, IsAccepted}
 use Rattle.flow_codec.specs.Raw.{RawMessage}
 use Rattle.flow_codec.specs.Templates.{AllTemplates}
-use Rattle.flow_codec.proofs.Dividing.{no_message, one_message}
+use Rattle.flow_codec.proofs.Dividing.{one_message}
 use Rattle.flow_codec.proofs.FaultLaws as accepted
 use Rattle.flow_measure.specs.declared.span.PartSpan.{PartSpan}
 use Rattle.flow_measure.specs.History.{Accepted, AreAcceptedFrom, templates_from}
@@ -167,35 +166,42 @@ octets_more section octets old now new start span noted_span count at n was fits
     old.templates now.templates a.after at (at + n) (drop at octets) (drop (at + n) octets) one a.message was cut split
     (omega (arith, long)) taken.2 next_kind)
 
--- where other messages fill the octets, there is no fault at the place
-pub octets_fault : (section : Section) (octets : List ℕ) (old now : Carry) (start span : Option PartSpan)
-    (count at place : ℕ)
-    (others : List Accepted) (fault : FileError) → AreOctetsRead section octets old now start span count at
-    → at < length octets → AreRead octets old.templates others [] → AreOf section others
-    → IsFileFault place (drop at octets) fault → ⊥
-octets_fault section octets old now start span count at place others fault was below other kind bad =
-    ⊎_elim (λ none. omega (arith, below, length-drop at octets, ap (λ (l : List ℕ). length l) none))
-    (λ there. no_message place there.message.octets there.more fault there.cut (subst (λ
-    (l : List ℕ). IsFileFault place l fault) there.parts bad))
-    (next_of section octets (drop at octets) old.templates was.messages others was.read other kind)
+-- what is read so far of octets, said of these and those that come after them
+pub read_more : (octets later rest : List ℕ) (before : AllTemplates) (ms : List Accepted)
+    → AreRead octets before ms rest → AreRead (octets ++ later) before ms (rest ++ later)
+read_more octets later rest before ms read = record {
+  divided = record {
+    whole = ap (λ (l : List ℕ). l ++ later) read.divided.whole ∙ append_assoc (joined (octets_of ms)) rest later;
+    each = read.divided.each;
+  };
+  accepted = read.accepted;
+}
 
--- and the one that is cut off there is the next of them
-pub octets_refused : (section : Section) (octets : List ℕ) (old now : Carry) (start span : Option PartSpan)
+-- where other messages fill these octets and those after them, the one that is cut off there is the next of them
+pub octets_refused : (section : Section) (octets later : List ℕ) (old now : Carry) (start span : Option PartSpan)
     (count at n : ℕ)
     (others : List Accepted) (P : Type 0) → AreOctetsRead section octets old now start span count at
-    → at < length octets → IsCutOff (take n (drop at octets))
-    → AreRead octets old.templates others [] → AreOf section others
+    → at < length octets → n ≤ length (drop at octets) → IsCutOff (take n (drop at octets))
+    → AreRead (octets ++ later) old.templates others [] → AreOf section others
     → ((a : Accepted) → IsAccepted (take n (drop at octets)) now.templates a.message a.after → IsOf section a → P) → P
-octets_refused section octets old now start span count at n others P was below cut other kind refused =
-    ⊎_elim (λ none. absurd (omega (arith, below, length-drop at octets, ap (λ (l : List ℕ). length l) none)))
+octets_refused section octets later old now start span count at n others P was below fits cut other kind refused =
+    ⊎_elim (λ none. absurd (omega (
+      arith,
+      below,
+      length-drop at octets,
+      ap (λ (l : List ℕ). length l) none,
+      length-append (drop at octets) later,
+    )))
     (λ there.
     let one = take n (drop at octets) in
-    let heads = one_message one there.message.octets (drop n (drop at octets)) there.more cut there.cut
-    (take-append-drop n (drop at octets) ∙ there.parts) in
+    let heads = one_message one there.message.octets (drop n (drop at octets) ++ later) there.more cut there.cut
+    (sym (append_assoc one (drop n (drop at octets)) later)
+    ∙ ap (λ (l : List ℕ). l ++ later) (take-append-drop n (drop at octets)) ∙ there.parts) in
     refused there.message (subst (λ (ts : AllTemplates). IsAccepted one ts there.message.message there.message.after)
     (sym was.same) (subst (λ (l : List ℕ). IsAccepted l (templates_from old.templates was.messages)
     there.message.message there.message.after) (sym heads.0) there.accepted)) there.kind)
-    (next_of section octets (drop at octets) old.templates was.messages others was.read other kind)
+    (next_of section (octets ++ later) (drop at octets ++ later) old.templates was.messages others
+    (read_more octets later (drop at octets) old.templates was.messages was.read) other kind)
 
 -- ---- a list of messages
 

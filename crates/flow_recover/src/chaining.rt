@@ -1,6 +1,8 @@
 //! What the octets of an archive's files are: sums, and a chain of segments of accepted messages.
 
-ghost use Rattle.std.specs.Prelude.{◌≡◌, ◌≢◌, ◌<◌, List, [], Option, length, OnOk, IfOk, IfErr};
+ghost use Rattle.std.specs.Prelude.{◌≡◌, ◌≢◌, ◌<◌, ◌≤◌, IsTrue, List, [], take, OnOk, IfOk, IfErr};
+ghost use Rattle.flow_codec.specs.Fault.{IsOctets};
+ghost use Rattle.flow_disk.specs.Cause.{HasCause};
 ghost use Rattle.flow_measure.specs.History.{Accepted};
 ghost use Rattle.flow_measure.specs.Sums.{Table};
 ghost use Rattle.flow_rolled.specs.Rollup.{IsRollup};
@@ -9,22 +11,24 @@ ghost use Rattle.flow_segment.specs.Carry.{no_carry, prefix_of, Carry};
 ghost use Rattle.flow_segment.specs.Prefix.{AreRead};
 ghost use Rattle.flow_model.specs.State.{Part};
 ghost use Rattle.flow_recover.specs.Reading.{part_of};
-ghost use Rattle.flow_model.specs.Chain.{IsPartBehind, IsSegment};
-ghost use Rattle.flow_recover.specs.Reading.{AreOf, IsHeldBehind, IsCalled, IsRestatement};
+ghost use Rattle.flow_model.specs.Chain.{IsSegment};
+ghost use Rattle.flow_recover.specs.Opening.{IsDeviceOrMemory};
+ghost use Rattle.flow_recover.specs.Reading.{AreOf, IsCalled, IsOnlyRead, IsRestatement};
 ghost use Rattle.flow_segment.specs.Spans.{IsOwnSpan};
-ghost use Rattle.flow_recover.specs.Spans.{IsSpanOf};
-ghost use Rattle.flow_model.specs.Standing.{IsSealedAt, StandsAs};
+ghost use Rattle.flow_model.specs.Standing.{IsSealedAt};
 
 use crate::active::ActiveSegment;
+use crate::pieces::{lengthen, take_pieces, take_prefix};
 use crate::segments::{Section, take_list, take_octets};
-use flow_manifest::{Entry, Kind, Manifest, OpenError};
+use flow_disk::Disk;
+use flow_manifest::{Entry, OpenError};
 use flow_measure::PartSpan;
 use flow_rolled::{RolledError, decode_rows};
 use flow_segment::Carry;
 use std::alloc::Global;
 
 /// Takes in a segment's prefix, which must be `called` if the segment isn't the first one.
-fn read_prefix(
+pub(crate) fn read_prefix(
     carry: &mut Carry,
     alloc: Global,
     called: &Option<Vec<u8>>,
@@ -32,6 +36,7 @@ fn read_prefix(
     octets: &[u8],
 ) -> Result<(), OpenError>
     requires { carry.old ≡ no_carry 0 }
+    ensures octets { IsOctets octets.now }
     ensures found { OnOk result (IsRestatement octets.now carry.new × IsCalled called.now octets.now) }
     ensures refused { (messages : List Accepted) → AreRead octets.now [] messages [] → AreOf Section.Prefix messages
         → IsCalled called.now octets.now → IfErr result (λ e. e ≡ OpenError.OutOfMemory) }
@@ -98,40 +103,32 @@ pub(crate) fn read_segment(
     Ok(carry)
 }
 
-/// Takes in a sealed segment with these octets, and answers when its flows start.
-fn take_sealed(
+/// Reads a sealed segment and takes it in, and answers when its flows start.
+fn take_sealed<D: Disk>(
     carry: &mut Carry,
     alloc: Global,
+    disk: &mut D,
     called: &Option<Vec<u8>>,
     entry: Entry,
-    octets: &[u8],
+    buffer: &mut Vec<u8>,
 ) -> Result<PartSpan, OpenError>
     requires new { carry.old ≡ no_carry 0 }
-    requires whole { length octets.now ≡ entry.length }
-    ensures found { IfOk result (λ span. (p : Part) × IsSealedAt octets.now entry p × IsCalled called.now p.front
+    requires room { entry.length ≤ (D.marks disk.old entry.file).size }
+    ensures keeps { IsOnlyRead D.Disk disk.old disk.new }
+    ensures cause { HasCause OpenError.Fault (D.faults disk.old) (D.faults disk.new) result }
+    ensures found { IsTrue (D.honest disk.old) → IfOk result (λ span. (p : Part)
+        × IsSealedAt (take entry.length (D.held disk.old entry.file).reads) entry p × IsCalled called.now p.front
         × IsSegment p carry.new × IsOwnSpan p.front p.messages span) }
-    ensures refused { (p : Part) (whole : Carry) → IsSealedAt octets.now entry p → IsCalled called.now p.front
-        → IsSegment p whole → IfErr result (λ e. e ≡ OpenError.OutOfMemory) }
-    ensures device { IfErr result (λ e. e ≢ OpenError.Fault) }
+    ensures refused { IsTrue (D.honest disk.old) → (p : Part) (whole : Carry)
+        → IsSealedAt (take entry.length (D.held disk.old entry.file).reads) entry p → IsCalled called.now p.front
+        → IsSegment p whole → IfErr result IsDeviceOrMemory }
 {
-    let prefix = entry.prefix as usize;
-    if prefix > octets.len() {
+    if u64::from(entry.prefix) > entry.length {
         return Err(OpenError::Damaged(entry.file, entry.length));
     }
-    let front = &octets[..prefix];
-    let messages = &octets[prefix..];
-    read_prefix(carry, alloc, called, entry.file, front)?;
-    let place = u64::from(entry.prefix);
+    take_prefix(carry, alloc, disk, called, entry, buffer)?;
     let mut noted = Some(PartSpan::none());
-    let count = take_octets(
-        carry,
-        alloc,
-        messages,
-        Section::Messages,
-        entry.file,
-        place,
-        &mut noted,
-    )?;
+    let count = take_pieces(carry, alloc, disk, entry, buffer, &mut noted)?;
     if count != entry.messages {
         return Err(OpenError::Damaged(entry.file, entry.length));
     }
@@ -140,45 +137,51 @@ fn take_sealed(
 }
 
 /// Takes a sealed segment in, after nothing: the prefix that the segment after it must have, and when its flows start.
-fn read_taken(
+fn read_taken<D: Disk>(
     carry: &mut Carry,
     alloc: Global,
+    disk: &mut D,
     called: &Option<Vec<u8>>,
     entry: Entry,
-    octets: &[u8],
+    buffer: &mut Vec<u8>,
 ) -> Result<(Vec<u8>, PartSpan), OpenError>
     requires new { carry.old ≡ no_carry 0 }
-    requires whole { length octets.now ≡ entry.length }
-    ensures found { IfOk result (λ r. (p : Part) × (carry : Carry) × IsSealedAt octets.now entry p
-        × IsCalled called.now p.front × IsSegment p carry × IsOwnSpan p.front p.messages r.1
-        × (r.0.items ≡ prefix_of carry)) }
-    ensures refused { (p : Part) (whole : Carry) → IsSealedAt octets.now entry p → IsCalled called.now p.front
-        → IsSegment p whole → IfErr result (λ e. e ≡ OpenError.OutOfMemory) }
-    ensures device { IfErr result (λ e. e ≢ OpenError.Fault) }
+    requires room { entry.length ≤ (D.marks disk.old entry.file).size }
+    ensures keeps { IsOnlyRead D.Disk disk.old disk.new }
+    ensures cause { HasCause OpenError.Fault (D.faults disk.old) (D.faults disk.new) result }
+    ensures found { IsTrue (D.honest disk.old) → IfOk result (λ r. (p : Part) × (carry : Carry)
+        × IsSealedAt (take entry.length (D.held disk.old entry.file).reads) entry p × IsCalled called.now p.front
+        × IsSegment p carry × IsOwnSpan p.front p.messages r.1 × (r.0.items ≡ prefix_of carry)) }
+    ensures refused { IsTrue (D.honest disk.old) → (p : Part) (whole : Carry)
+        → IsSealedAt (take entry.length (D.held disk.old entry.file).reads) entry p → IsCalled called.now p.front
+        → IsSegment p whole → IfErr result IsDeviceOrMemory }
 {
-    let span = take_sealed(carry, alloc, called, entry, octets)?;
+    let span = take_sealed(carry, alloc, disk, called, entry, buffer)?;
     let next = carry.prefix(alloc)?;
     Ok((next, span))
 }
 
-/// The prefix that the segment after the sealed one with these octets must have, and when the flows of the sealed one
-/// start. The sealed one's own prefix must be `called` if it isn't the first segment.
-fn read_sealed(
+/// The prefix that the segment after a sealed one must have, and when the flows of the sealed one start. The sealed
+/// one's own prefix must be `called` if it isn't the first segment.
+pub(crate) fn read_sealed<D: Disk>(
     alloc: Global,
+    disk: &mut D,
     called: &Option<Vec<u8>>,
     entry: Entry,
-    octets: &[u8],
+    buffer: &mut Vec<u8>,
 ) -> Result<(Vec<u8>, PartSpan), OpenError>
-    requires { length octets.now ≡ entry.length }
-    ensures found { IfOk result (λ r. (p : Part) × (carry : Carry) × IsSealedAt octets.now entry p
-        × IsCalled called.now p.front × IsSegment p carry × IsOwnSpan p.front p.messages r.1
-        × (r.0.items ≡ prefix_of carry)) }
-    ensures refused { (p : Part) (whole : Carry) → IsSealedAt octets.now entry p → IsCalled called.now p.front
-        → IsSegment p whole → IfErr result (λ e. e ≡ OpenError.OutOfMemory) }
-    ensures device { IfErr result (λ e. e ≢ OpenError.Fault) }
+    requires { entry.length ≤ (D.marks disk.old entry.file).size }
+    ensures keeps { IsOnlyRead D.Disk disk.old disk.new }
+    ensures cause { HasCause OpenError.Fault (D.faults disk.old) (D.faults disk.new) result }
+    ensures found { IsTrue (D.honest disk.old) → IfOk result (λ r. (p : Part) × (carry : Carry)
+        × IsSealedAt (take entry.length (D.held disk.old entry.file).reads) entry p × IsCalled called.now p.front
+        × IsSegment p carry × IsOwnSpan p.front p.messages r.1 × (r.0.items ≡ prefix_of carry)) }
+    ensures refused { IsTrue (D.honest disk.old) → (p : Part) (whole : Carry)
+        → IsSealedAt (take entry.length (D.held disk.old entry.file).reads) entry p → IsCalled called.now p.front
+        → IsSegment p whole → IfErr result IsDeviceOrMemory }
 {
     let mut carry = Carry::new(alloc);
-    let read = read_taken(&mut carry, alloc, called, entry, octets);
+    let read = read_taken(&mut carry, alloc, disk, called, entry, buffer);
     drop(carry);
     read
 }
@@ -208,53 +211,26 @@ fn told(fault: RolledError, file: u64) -> OpenError
     }
 }
 
-/// What the checking of files before the active one gives.
-#[derive(Drop)]
-pub(crate) struct Checked {
-    /// The prefix that the next segment must have, if a segment is before it.
-    pub(crate) called: Option<Vec<u8>>,
-    /// When the flows of the last file start.
-    pub(crate) span: PartSpan,
-}
-
-/// Checks the octets of an entry's file. `called` is the prefix that the next segment must have, if a segment is before
-/// it; the answer has the same after this file.
-pub(crate) fn kept_of(
+/// Reads a file of sums by a width whole, looks at it, and answers when its intervals start.
+pub(crate) fn read_sums<D: Disk>(
     alloc: Global,
-    manifest: &Manifest,
-    called: Option<Vec<u8>>,
+    disk: &mut D,
+    width: u32,
     entry: Entry,
-    octets: &[u8],
-) -> Result<Checked, OpenError>
-    requires width { 0 < manifest.now.width }
-    requires wide { 0 < manifest.now.wide }
-    requires whole { length octets.now ≡ entry.length }
-    ensures found { (before : Option Carry) → IsHeldBehind before called → IfOk result (λ read. (p : Part)
-        × (after : Option Carry) × StandsAs entry.kind octets.now entry p
-        × IsPartBehind manifest.now entry.kind before p after × IsHeldBehind after read.called) }
-    ensures spanned { IfOk result (λ read. (p : Part) → StandsAs entry.kind octets.now entry p
-        → IsSpanOf manifest.now entry.kind p read.span) }
-    ensures refused { (before : Option Carry) → IsHeldBehind before called → (p : Part) (after : Option Carry)
-        → StandsAs entry.kind octets.now entry p → IsPartBehind manifest.now entry.kind before p after
-        → IfErr result (λ e. e ≡ OpenError.OutOfMemory) }
-    ensures device { IfErr result (λ e. e ≢ OpenError.Fault) }
+    buffer: &mut Vec<u8>,
+) -> Result<PartSpan, OpenError>
+    requires width { 0 < width }
+    requires room { entry.length ≤ (D.marks disk.old entry.file).size }
+    ensures keeps { IsOnlyRead D.Disk disk.old disk.new }
+    ensures cause { HasCause OpenError.Fault (D.faults disk.old) (D.faults disk.new) result }
+    ensures found { IsTrue (D.honest disk.old) → IfOk result (λ span. HasSpan (record { width = width; span = span })
+        (take entry.length (D.held disk.old entry.file).reads)) }
+    ensures refused { IsTrue (D.honest disk.old) → (table : Table)
+        → IsRollup width (take entry.length (D.held disk.old entry.file).reads) table → IfErr result IsDeviceOrMemory }
 {
-    match entry.kind {
-        Kind::Wide => {
-            let span = read_rolled(alloc, manifest.wide, entry.file, octets)?;
-            Ok(Checked { called, span })
-        }
-        Kind::Rolled => {
-            let span = read_rolled(alloc, manifest.width, entry.file, octets)?;
-            Ok(Checked { called, span })
-        }
-        Kind::Sealed => {
-            let (next, span) = read_sealed(alloc, &called, entry, octets)?;
-            Ok(Checked {
-                called: Some(next),
-                span,
-            })
-        }
-        Kind::Active => Err(OpenError::Damaged(entry.file, 0)),
-    }
+    let count = entry.length as usize;
+    lengthen(alloc, buffer, count)?;
+    let octets = &mut buffer[..count];
+    disk.read_into(entry.file, 0, octets)?;
+    read_rolled(alloc, width, entry.file, octets)
 }

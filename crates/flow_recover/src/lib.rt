@@ -15,6 +15,7 @@ mod active;
 mod chaining;
 mod laws;
 mod opening;
+mod pieces;
 mod reading;
 mod segments;
 mod settling;

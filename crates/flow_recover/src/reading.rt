@@ -18,19 +18,19 @@ ghost use Rattle.flow_model.specs.Standing.{StandsAs, IsActiveAt, IsWithinLimits
 ghost use Rattle.flow_manifest.specs.Following.{active_of, front_of, messages_of};
 ghost use Rattle.flow_recover.specs.Kept.{IsCounted};
 ghost use Rattle.flow_model.specs.Chain.{ArePartsBehind, HandsOn, IsPartBehind, IsSegment};
-ghost use Rattle.flow_recover.specs.Reading.{IsHeldBehind};
+ghost use Rattle.flow_recover.specs.Reading.{IsHeldBehind, IsOnlyRead};
 ghost use Rattle.flow_recover.specs.Opening.{IsDeviceOrMemory};
 ghost use Rattle.flow_recover.specs.Spans.{AreSpansOf, IsSpanOf};
 ghost use Rattle.flow_segment.specs.Carry.{Carry};
 
 use crate::active::ActiveSegment;
-use crate::chaining::{Checked, kept_of, read_segment};
+use crate::chaining::{read_sealed, read_segment, read_sums};
 use flow_disk::Disk;
 use flow_gate::scan;
-use flow_manifest::{Entry, MOST_MESSAGES, Manifest, OpenError};
+use flow_manifest::{Entry, Kind, MOST_MESSAGES, Manifest, OpenError};
 use flow_measure::PartSpan;
 use flow_segment::Carry;
-use std::alloc::{AllocError, Global};
+use std::alloc::Global;
 
 /// One more than the most messages of an archive.
 const TOO_MANY_MESSAGES: u64 = MOST_MESSAGES + 1;
@@ -60,11 +60,7 @@ pub(crate) fn read_files<D: Disk>(
     requires valid { IsValidManifest manifest.now }
     requires active_entry { active_entry ≡ active_of manifest.now }
     // On every disk.
-    ensures honest { D.honest disk.new ≡ D.honest disk.old }
-    ensures settled { (n : ℕ) → (D.marks disk.new n).settled ≡ (D.marks disk.old n).settled }
-    ensures frozen { (n : ℕ) → (D.marks disk.new n).frozen ≡ (D.marks disk.old n).frozen }
-    ensures listed { (n : ℕ) → (D.marks disk.new n).listed ≡ (D.marks disk.old n).listed }
-    ensures slots { (n : ℕ) → n < 3 → D.marks disk.new n ≡ D.marks disk.old n }
+    ensures keeps { IsOnlyRead D.Disk disk.old disk.new }
     ensures counted { IfOk result (λ f. (parts : List Part)
         → IsCounted (at_rest manifest.now parts (part_of f.active)) active_entry f.end f.total) }
     ensures small { IfOk result (λ f. f.end + 2 < 2 ^ 64) }
@@ -72,9 +68,6 @@ pub(crate) fn read_files<D: Disk>(
     ensures cause { HasCause OpenError.Fault (D.faults disk.old) (D.faults disk.new) result }
 
     // On an honest one: what the files hold, where they hold an archive's.
-    ensures held { IsTrue (D.honest disk.old) → Stays (D.held disk.old) (D.held disk.new) }
-    ensures any_moment { IsTrue (D.honest disk.old)
-        → LeavesOnly D.Disk disk.old disk.new (IsDiskImage (D.held disk.old)) }
     ensures found { IsTrue (D.honest disk.old) → IfOk result (λ f. (parts : List Part)
         × HoldsFiles (reads_of (D.held disk.old)) (at_rest manifest.now parts (part_of f.active))
         × HandsOn (at_rest manifest.now parts (part_of f.active)) f.carry) }
@@ -177,15 +170,8 @@ fn read_entries<D: Disk>(
     requires width { 0 < manifest.now.width }
     requires wide { 0 < manifest.now.wide }
     requires files { AllByRecursion (λ (e : Entry). 3 ≤ e.file) entries.now }
-    ensures honest { D.honest disk.new ≡ D.honest disk.old }
-    ensures settled { (n : ℕ) → (D.marks disk.new n).settled ≡ (D.marks disk.old n).settled }
-    ensures frozen { (n : ℕ) → (D.marks disk.new n).frozen ≡ (D.marks disk.old n).frozen }
-    ensures listed { (n : ℕ) → (D.marks disk.new n).listed ≡ (D.marks disk.old n).listed }
-    ensures slots { (n : ℕ) → n < 3 → D.marks disk.new n ≡ D.marks disk.old n }
+    ensures keeps { IsOnlyRead D.Disk disk.old disk.new }
     ensures cause { HasCause OpenError.Fault (D.faults disk.old) (D.faults disk.new) result }
-    ensures held { IsTrue (D.honest disk.old) → Stays (D.held disk.old) (D.held disk.new) }
-    ensures any_moment { IsTrue (D.honest disk.old)
-        → LeavesOnly D.Disk disk.old disk.new (IsDiskImage (D.held disk.old)) }
     ensures found { IsTrue (D.honest disk.old) → IfOk result (λ called. (parts : List Part) × (after : Option Carry)
         × PartsStand (reads_of (D.held disk.old)) entries.now parts
         × ArePartsBehind manifest.now None entries.now parts after × IsHeldBehind after called) }
@@ -205,22 +191,19 @@ fn read_entries<D: Disk>(
     Ok(called)
 }
 
-/// Makes a buffer of at least this length, where it is shorter. Its memory is given back before more is taken. It has
-/// 65,535 octets more than asked: the sealed segments of an archive differ by less than a message, so what serves one of
-/// them mostly serves all.
-fn lengthen(alloc: Global, buffer: &mut Vec<u8>, count: usize) -> Result<(), AllocError>
-    ensures { OnOk result (count ≤ vec_len buffer.new) }
-{
-    if buffer.len() < count {
-        *buffer = Vec::new(alloc);
-        *buffer = vec![in alloc; 0u8; count.saturating_add(65_535)]?;
-    }
-    Ok(())
+/// What the checking of the files before the active one gives.
+#[derive(Drop)]
+struct Checked {
+    /// The prefix that the next segment must have, if a segment is before it.
+    called: Option<Vec<u8>>,
+    /// When the flows of the last file start.
+    span: PartSpan,
 }
 
 /// Reads and checks the file of an entry. `called` is the prefix that the next segment must have, if a segment is
-/// before it; the answer is the same after this file. The file is read into `buffer`, which grows where the file is
-/// longer: so one buffer serves all files, and is filled with zeros only where it grows.
+/// before it; the answer is the same after this file. The file, or a piece of a sealed segment after the other, is read
+/// into `buffer`, which grows where it is shorter: so one buffer serves all files, and is filled with zeros only where
+/// it grows.
 fn read_part<D: Disk>(
     alloc: Global,
     disk: &mut D,
@@ -232,15 +215,8 @@ fn read_part<D: Disk>(
     requires width { 0 < manifest.now.width }
     requires wide { 0 < manifest.now.wide }
     requires file { 3 ≤ entry.file }
-    ensures honest { D.honest disk.new ≡ D.honest disk.old }
-    ensures settled { (n : ℕ) → (D.marks disk.new n).settled ≡ (D.marks disk.old n).settled }
-    ensures frozen { (n : ℕ) → (D.marks disk.new n).frozen ≡ (D.marks disk.old n).frozen }
-    ensures listed { (n : ℕ) → (D.marks disk.new n).listed ≡ (D.marks disk.old n).listed }
-    ensures slots { (n : ℕ) → n < 3 → D.marks disk.new n ≡ D.marks disk.old n }
+    ensures keeps { IsOnlyRead D.Disk disk.old disk.new }
     ensures cause { HasCause OpenError.Fault (D.faults disk.old) (D.faults disk.new) result }
-    ensures held { IsTrue (D.honest disk.old) → Stays (D.held disk.old) (D.held disk.new) }
-    ensures any_moment { IsTrue (D.honest disk.old)
-        → LeavesOnly D.Disk disk.old disk.new (IsDiskImage (D.held disk.old)) }
     ensures found { IsTrue (D.honest disk.old) → (before : Option Carry) → IsHeldBehind before called
         → IfOk result (λ read. (p : Part) × (after : Option Carry)
         × StandsAs entry.kind (D.held disk.old entry.file).reads entry p
@@ -257,9 +233,22 @@ fn read_part<D: Disk>(
     if entry.length > size {
         return Err(OpenError::Damaged(entry.file, size));
     }
-    let count = entry.length as usize;
-    lengthen(alloc, buffer, count)?;
-    let octets = &mut buffer[..count];
-    disk.read_into(entry.file, 0, octets)?;
-    kept_of(alloc, manifest, called, entry, octets)
+    match entry.kind {
+        Kind::Wide => {
+            let span = read_sums(alloc, disk, manifest.wide, entry, buffer)?;
+            Ok(Checked { called, span })
+        }
+        Kind::Rolled => {
+            let span = read_sums(alloc, disk, manifest.width, entry, buffer)?;
+            Ok(Checked { called, span })
+        }
+        Kind::Sealed => {
+            let (next, span) = read_sealed(alloc, disk, &called, entry, buffer)?;
+            Ok(Checked {
+                called: Some(next),
+                span,
+            })
+        }
+        Kind::Active => Err(OpenError::Damaged(entry.file, 0)),
+    }
 }

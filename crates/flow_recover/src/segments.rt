@@ -1,13 +1,16 @@
 //! The messages of segments, each accepted after those before it.
 
-ghost use Rattle.std.specs.Prelude.{◌≡◌, ◌≢◌, ◌+◌, ◌<◌, ◌^◌, List, [], length, IfOk, IfErr, OnOk};
+ghost use Rattle.std.specs.Prelude.{◌≡◌, ◌≢◌, ◌+◌, ◌<◌, ◌≤◌, ◌^◌, ◌++◌, ℕ, List, [], length, drop, IfOk, IfErr, OnOk};
+ghost use Rattle.flow_codec.specs.declared.file.FileError.{FileError};
+ghost use Rattle.flow_codec.specs.Cutting.{IsFileFault};
+ghost use Rattle.flow_codec.specs.Fault.{IsOctets};
 ghost use Rattle.flow_codec.specs.Message.{IsAccepted};
 ghost use Rattle.flow_gate.specs.Scan.{texts};
 ghost use Rattle.flow_measure.specs.History.{Accepted, AreAcceptedFrom};
 ghost use Rattle.flow_segment.specs.Carry.{carry_from, carry_with, octets_of, Carry};
 ghost use Rattle.flow_segment.specs.Prefix.{AreRead};
 ghost use Rattle.flow_segment.specs.Spans.{all_noted, noted};
-ghost use Rattle.flow_recover.specs.Reading.{is_misplaced, AreOf, IsOf};
+ghost use Rattle.flow_recover.specs.Reading.{is_misplaced, AreOf, AreTaken, IsOf};
 
 use flow_codec::{MessageError, front_of};
 use flow_manifest::OpenError;
@@ -76,6 +79,58 @@ fn told(fault: MessageError, file: u64, at: u64) -> OpenError
     }
 }
 
+/// How far some octets were taken in.
+#[derive(Clone, Copy, Debug, PartialEq, Eq)]
+pub(crate) struct Taken {
+    /// How many octets the messages have.
+    pub(crate) octets: usize,
+    /// How many messages there are.
+    pub(crate) messages: u64,
+}
+
+/// Takes in the messages that these octets begin with, which start at this place of a file, up to the end or to octets
+/// that no whole message begins with. It counts them, and notes the starts of their flows, where a span is given.
+pub(crate) fn take_whole(
+    carry: &mut Carry,
+    alloc: Global,
+    octets: &[u8],
+    section: Section,
+    file: u64,
+    from: u64,
+    span: &mut Option<PartSpan>,
+) -> Result<Taken, OpenError>
+    requires { from + length octets.now < 2 ^ 64 }
+    ensures few { IfOk result (λ taken. taken.messages ≤ taken.octets) }
+    ensures octets { IsOctets octets.now }
+    ensures found { IfOk result (λ taken. AreTaken section octets.now carry.old carry.new span.old span.new taken) }
+    ensures stopped { IfOk result (λ taken. taken.octets < length octets.now
+        → (fault : FileError) × IsFileFault (from + taken.octets) (drop taken.octets octets.now) fault) }
+    ensures refused { (messages : List Accepted) (later : List ℕ)
+        → AreRead (octets.now ++ later) carry.old.templates messages [] → AreOf section messages
+        → IfErr result (λ e. e ≡ OpenError.OutOfMemory) }
+    ensures device { IfErr result (λ e. e ≢ OpenError.Fault) }
+{
+    let mut at = 0;
+    let mut count = 0;
+    'messages: while at < octets.len() {
+        let rest = &octets[at..];
+        let place = from + at as u64;
+        let Ok(length) = front_of(place, rest) else {
+            return Ok(Taken {
+                octets: at,
+                messages: count,
+            });
+        };
+        take_message(carry, alloc, &rest[..length], section, file, place, span)?;
+        at += length;
+        count += 1;
+    }
+    Ok(Taken {
+        octets: at,
+        messages: count,
+    })
+}
+
 /// Takes in the messages of these octets, which start at this place of a file, counts them, and notes the starts of
 /// their flows, where a span is given.
 pub(crate) fn take_octets(
@@ -88,6 +143,7 @@ pub(crate) fn take_octets(
     span: &mut Option<PartSpan>,
 ) -> Result<u64, OpenError>
     requires { from + length octets.now < 2 ^ 64 }
+    ensures octets { IsOctets octets.now }
     ensures found { IfOk result (λ count. (messages : List Accepted)
         × AreRead octets.now carry.old.templates messages [] × AreOf section messages
         × (carry.new ≡ carry_from carry.old messages) × (length messages ≡ count)
@@ -96,19 +152,11 @@ pub(crate) fn take_octets(
         → AreOf section messages → IfErr result (λ e. e ≡ OpenError.OutOfMemory) }
     ensures device { IfErr result (λ e. e ≢ OpenError.Fault) }
 {
-    let mut at = 0;
-    let mut count = 0;
-    'messages: while at < octets.len() {
-        let rest = &octets[at..];
-        let place = from + at as u64;
-        let Ok(length) = front_of(place, rest) else {
-            return Err(OpenError::Damaged(file, place));
-        };
-        take_message(carry, alloc, &rest[..length], section, file, place, span)?;
-        at += length;
-        count += 1;
+    let taken = take_whole(carry, alloc, octets, section, file, from, span)?;
+    if taken.octets < octets.len() {
+        return Err(OpenError::Damaged(file, from + taken.octets as u64));
     }
-    Ok(count)
+    Ok(taken.messages)
 }
 
 /// Takes in these messages, the first of which starts at this place of a file.

@@ -27,14 +27,14 @@ returns-clause-active_entry g c = c.active_entry_of-active_entry.ensures ∙ ap 
     (length l - 1) no_entry) c.as_slice.ensures
 
 pub returns-clause-frozen : goal.returns-clause-frozen
-returns-clause-frozen g c n = c.read_files.ensures.frozen n ∙ c.settle_all.ensures.frozen n
+returns-clause-frozen g c n = c.read_files.ensures.keeps.frozen n ∙ c.settle_all.ensures.frozen n
 
 pub returns-in_err-files-clause-frozen : goal.returns-in_err-files-clause-frozen
-returns-in_err-files-clause-frozen g c n = c.read_files.ensures.frozen n ∙ c.settle_all.ensures.frozen n
+returns-in_err-files-clause-frozen g c n = c.read_files.ensures.keeps.frozen n ∙ c.settle_all.ensures.frozen n
 
 pub returns-clause-slots : goal.returns-clause-slots
 returns-clause-slots g c slot =
-    let same = c.read_files.ensures.slots (file_of slot) (slot_below slot) in
+    let same = c.read_files.ensures.keeps.slots (file_of slot) (slot_below slot) in
     let was = c.in_ok-slots.ensures.slots slot in
     (ap (λ (k : Marks). k.settled) same ∙ was.0, subst (λ (k : Marks). 1 ≤ k.size) (sym same) was.1)
 
@@ -44,19 +44,19 @@ returns-clause-settled g c =
     let d1 = c.settle_all.new.disk in
     let d2 = c.read_files.new.disk in
     all_by (λ (e : Entry). (D.marks d1 e.file).settled ≡ true) (λ (e : Entry). (D.marks d2 e.file).settled ≡ true)
-    (λ e was. c.read_files.ensures.settled e.file ∙ was)
+    (λ e was. c.read_files.ensures.keeps.settled e.file ∙ was)
     c.in_ok-slots.slots.current.entries c.in_ok-slots.ensures.settled
 
 pub returns-clause-narrows : goal.returns-clause-narrows
 returns-clause-narrows g c h image is =
     let h1 = subst IsTrue (sym c.settle_all.ensures.honest) h in
-    let held = c.read_files.ensures.held h1 in
+    let held = c.read_files.ensures.keeps.held h1 in
     c.settle_all.ensures.narrows h image (λ n. subst (λ (f : Held). IsImage f (image n)) (held n) (is n))
 
 pub returns-in_err-files-clause-narrows : goal.returns-in_err-files-clause-narrows
 returns-in_err-files-clause-narrows g c h image is =
     let h1 = subst IsTrue (sym c.settle_all.ensures.honest) h in
-    let held = c.read_files.ensures.held h1 in
+    let held = c.read_files.ensures.keeps.held h1 in
     c.settle_all.ensures.narrows h image (λ n. subst (λ (f : Held). IsImage f (image n)) (held n) (is n))
 
 pub returns-clause-any_moment : goal.returns-clause-any_moment
@@ -68,7 +68,7 @@ returns-clause-any_moment g c h =
     let P = IsDiskImage (D.held d0) in
     let h1 = subst IsTrue (sym c.settle_all.ensures.honest) h in
     one_run D d0 d1 d2 P (c.settle_all.ensures.any_moment h) (by D d1 d2
-    (IsDiskImage (D.held d1)) P (c.read_files.ensures.any_moment h1) (c.settle_all.ensures.narrows h))
+    (IsDiskImage (D.held d1)) P (c.read_files.ensures.keeps.any_moment h1) (c.settle_all.ensures.narrows h))
 
 pub returns-in_err-files-clause-any_moment : goal.returns-in_err-files-clause-any_moment
 returns-in_err-files-clause-any_moment g c h =
@@ -79,7 +79,7 @@ returns-in_err-files-clause-any_moment g c h =
     let P = IsDiskImage (D.held d0) in
     let h1 = subst IsTrue (sym c.settle_all.ensures.honest) h in
     one_run D d0 d1 d2 P (c.settle_all.ensures.any_moment h) (by D d1 d2
-    (IsDiskImage (D.held d1)) P (c.read_files.ensures.any_moment h1) (c.settle_all.ensures.narrows h))
+    (IsDiskImage (D.held d1)) P (c.read_files.ensures.keeps.any_moment h1) (c.settle_all.ensures.narrows h))
 
 pub returns-in_err-files-clause-told : goal.returns-in_err-files-clause-told
 returns-in_err-files-clause-told g c h =
@@ -101,7 +101,7 @@ returns-clause-read g c h =
     let slots = c.in_ok-slots.slots in
     let m = slots.current in
     let found = c.in_ok-files.ensures.found h1 in
-    let held = c.read_files.ensures.held h1 in
+    let held = c.read_files.ensures.keeps.held h1 in
     let s = at_rest m found.0 (part_of c.in_ok-files.files.active) in
     let same : (n : ℕ) → (D.held d0 n).reads ≡ (D.held d1 n).reads = λ n. sym (c.in_ok-slots.ensures.reads h n) in (
       found.0,
@@ -135,15 +135,15 @@ returns-in_err-files-clause-kept g c h =
     passed_on c.from_residual-in_err-files.result (c.in_err-files.field-0).0 (λ (e : OpenError). e ≢ Fault
     → (n : ℕ) → (D.held c.read_files.new.disk n).reads ≡ (D.held c.args.disk.now n).reads)
     c.from_residual-in_err-files.ensures.1
-    (λ other n. ap (λ (f : Held). f.reads) (c.read_files.ensures.held h1 n) ∙ c.in_ok-slots.ensures.reads h n)
+    (λ other n. ap (λ (f : Held). f.reads) (c.read_files.ensures.keeps.held h1 n) ∙ c.in_ok-slots.ensures.reads h n)
 
 pub returns-clause-reads : goal.returns-clause-reads
 returns-clause-reads g c h n =
     let h1 = subst IsTrue (sym c.settle_all.ensures.honest) h in
-    ap (λ (f : Held). f.reads) (c.read_files.ensures.held h1 n) ∙ c.in_ok-slots.ensures.reads h n
+    ap (λ (f : Held). f.reads) (c.read_files.ensures.keeps.held h1 n) ∙ c.in_ok-slots.ensures.reads h n
 
 pub returns-clause-listed : goal.returns-clause-listed
-returns-clause-listed g c n named = c.read_files.ensures.listed n ∙ c.in_ok-slots.ensures.listed n named
+returns-clause-listed g c n named = c.read_files.ensures.keeps.listed n ∙ c.in_ok-slots.ensures.listed n named
 
 pub returns-clause-spanned : goal.returns-clause-spanned
 returns-clause-spanned g c h =

@@ -1,9 +1,7 @@
-use Rattle.std.proofs.Common.{◌≡◌, ℕ, ◌<◌, IsTrue, List, [], take, None, Option}
-use Rattle.flow_disk.specs.Disk.{IsDiskImage, Stays}
-use Rattle.flow_disk.specs.Calls.{LeavesOnly}
+use Rattle.std.proofs.Common.{◌≡◌, IsTrue, List, [], take, None, Option}
 use Rattle.flow_manifest.specs.Slots.{reads_of}
 use Rattle.flow_model.specs.Chain.{ArePartsBehind}
-use Rattle.flow_recover.specs.Reading.{IsHeldBehind}
+use Rattle.flow_recover.specs.Reading.{IsHeldBehind, IsOnlyRead}
 use Rattle.flow_recover.specs.Spans.{AreSpansOf}
 use Rattle.flow_segment.specs.Carry.{Carry}
 use Rattle.flow_model.specs.Standing.{PartsStand}
@@ -12,15 +10,8 @@ use Rattle.flow_recover.proofs.reading.read_entries.Given as goal
 
 abbrev pub invariant-entries : goal.invariant-entries
 invariant-entries g l = let D = g.D.Disk in record {
-  honest : D.honest l.disk ≡ D.honest l.fn.disk;
-  settled : (n : ℕ) → (D.marks l.disk n).settled ≡ (D.marks l.fn.disk n).settled;
-  frozen : (n : ℕ) → (D.marks l.disk n).frozen ≡ (D.marks l.fn.disk n).frozen;
-  listed : (n : ℕ) → (D.marks l.disk n).listed ≡ (D.marks l.fn.disk n).listed;
-  slots : (n : ℕ) → n < 3 → D.marks l.disk n ≡ D.marks l.fn.disk n;
+  keeps : IsOnlyRead D l.fn.disk l.disk;
   faults : D.faults l.disk ≡ D.faults l.fn.disk;
-  held : IsTrue (D.honest l.fn.disk) → Stays (D.held l.fn.disk) (D.held l.disk);
-  run : IsTrue (D.honest l.fn.disk) → LeavesOnly D l.fn.disk l.disk (IsDiskImage
-      (D.held l.fn.disk));
   found : IsTrue (D.honest l.fn.disk) → (parts : List Part) × (before : Option Carry)
       × PartsStand (reads_of (D.held l.fn.disk)) (take l.entry-index l.entries) parts
       × ArePartsBehind l.manifest None (take l.entry-index l.entries) parts before × IsHeldBehind before l.called;

@@ -4,9 +4,7 @@ use Rattle.std.specs.List.{All}
 use Rattle.std.specs.declared.alloc.Global.{Global}
 use Rattle.std.proofs.lemmas.List.{length-map}
 use Rattle.std.proofs.lemmas.List.Elements.{All-get_or}
-use Rattle.flow_disk.specs.Disk.{Held, IsImage, IsDiskImage}
-use Rattle.flow_disk.specs.Calls.{LeavesOnly}
-use Rattle.flow_disk.proofs.Moments.{by, one_run}
+use Rattle.flow_disk.specs.Disk.{Held}
 use Rattle.flow_disk.proofs.Results.{passed_on}
 use Rattle.flow_gate.specs.Gate.{IsWhole, octet_sum}
 use Rattle.flow_manifest.specs.declared.manifest.Entry.{Entry}
@@ -17,10 +15,11 @@ use Rattle.flow_segment.specs.Carry.{Carry}
 use Rattle.flow_model.specs.State.{Part, State, at_rest}
 use Rattle.flow_recover.specs.Reading.{part_of}
 use Rattle.flow_model.specs.Chain.{ArePartsBehind, HandsOn, IsCalledFor, IsSegment}
-use Rattle.flow_recover.specs.Reading.{IsHeldBehind}
+use Rattle.flow_recover.specs.Reading.{IsHeldBehind, IsOnlyRead}
 use Rattle.flow_model.specs.Standing.{PartsStand, IsActiveAt, IsWithinLimits, HoldsFiles}
 use Rattle.flow_recover.specs.Opening.{IsDeviceOrMemory}
 use Rattle.flow_recover.proofs.Behind.{called_along, called_for, is_called, one_chain}
+use Rattle.flow_recover.proofs.OnlyReading.{then}
 use Rattle.flow_recover.proofs.Recovering.{one_active}
 use Rattle.flow_recover.proofs.reading.read_files.Given.{Over}
 use Rattle.flow_recover.proofs.reading.read_files.Goals.{After-read_active, In_ok-active, In-Some}
@@ -41,20 +40,28 @@ held_of : {image : ℕ → List ℕ} {s : State} {m : Manifest} → s.manifest �
 held_of {image} {s} {m} man files = subst (λ (k : Manifest). HoldsFiles image (record s { manifest = k })) man files
 
 -- ---- what was read
-module _ (g : Over) (c : After-read_active g) (h : IsTrue (g.D.Disk.honest c.args.disk.now)) where
-  ran : LeavesOnly g.D.Disk c.args.disk.now c.read_active.new.disk (IsDiskImage (g.D.Disk.held c.args.disk.now))
-  ran = one_run _ _ _ _ _ (c.read_entries.ensures.any_moment h)
-      (by _ _ _ _ _ (c.read_active.ensures.any_moment (subst IsTrue (sym c.read_entries.ensures.honest) h))
-      (λ image is n. subst (λ (f : Held). IsImage f (image n)) (c.read_entries.ensures.held h n) (is n)))
+module _ (g : Over) (c : After-read_active g) where
+  ran : IsOnlyRead g.D.Disk c.args.disk.now c.read_active.new.disk
+  ran = let call = c.read_active.ensures in
+      then g.D.Disk c.args.disk.now c.read_entries.new.disk c.read_active.new.disk
+      c.read_entries.ensures.keeps (record {
+        honest = call.honest;
+        settled = call.settled;
+        frozen = call.frozen;
+        listed = call.listed;
+        slots = call.slots;
+        held = call.held;
+        any_moment = call.any_moment;
+      })
 
 module _ (g : Over) (c : In_ok-active g) (h : IsTrue (g.D.Disk.honest c.args.disk.now)) where
   active : IsActiveAt (g.D.Disk.held c.args.disk.now (active_of c.args.manifest.now).file).reads
       (active_of c.args.manifest.now) (part_of c.in_ok-active.active)
   active = let p = part_of c.in_ok-active.active in
       subst (λ (x : Entry). IsActiveAt (g.D.Disk.held c.args.disk.now x.file).reads x p) c.requires.active_entry
-      (subst (λ (f : Held). IsActiveAt f.reads c.args.active_entry p) (c.read_entries.ensures.held h
+      (subst (λ (f : Held). IsActiveAt f.reads c.args.active_entry p) (c.read_entries.ensures.keeps.held h
       c.args.active_entry.file)
-      (c.in_ok-active.ensures.found (subst IsTrue (sym c.read_entries.ensures.honest) h)))
+      (c.in_ok-active.ensures.found (subst IsTrue (sym c.read_entries.ensures.keeps.honest) h)))
 
   same : {s : State} → s.manifest ≡ c.args.manifest.now → HoldsFiles (reads_of (g.D.Disk.held c.args.disk.now)) s
       → s.active ≡ part_of c.in_ok-active.active
@@ -78,25 +85,21 @@ module _ (g : Over) (c : In-Some g) where
     all = omega (arith, total, c.in-Some.ensures.found.1);
   }
 
--- ---- at any moment
-pub returns-in_err-active-clause-any_moment : goal.returns-in_err-active-clause-any_moment
-returns-in_err-active-clause-any_moment g c h =
-    ran g (goal.at.returns-in_err-active-clause-any_moment g c).After-read_active h
+-- ---- the disk
+pub returns-in_err-active-clause-keeps : goal.returns-in_err-active-clause-keeps
+returns-in_err-active-clause-keeps g c = ran g (goal.at.returns-in_err-active-clause-keeps g c).After-read_active
 
-pub returns-in_err-carry-clause-any_moment : goal.returns-in_err-carry-clause-any_moment
-returns-in_err-carry-clause-any_moment g c h =
-    ran g (goal.at.returns-in_err-carry-clause-any_moment g c).After-read_active h
+pub returns-in_err-carry-clause-keeps : goal.returns-in_err-carry-clause-keeps
+returns-in_err-carry-clause-keeps g c = ran g (goal.at.returns-in_err-carry-clause-keeps g c).After-read_active
 
-pub returns-then-end-limit-clause-any_moment : goal.returns-then-end-limit-clause-any_moment
-returns-then-end-limit-clause-any_moment g c h =
-    ran g (goal.at.returns-then-end-limit-clause-any_moment g c).After-read_active h
+pub returns-then-end-limit-clause-keeps : goal.returns-then-end-limit-clause-keeps
+returns-then-end-limit-clause-keeps g c = ran g (goal.at.returns-then-end-limit-clause-keeps g c).After-read_active
 
-pub returns-in_default-clause-any_moment : goal.returns-in_default-clause-any_moment
-returns-in_default-clause-any_moment g c h =
-    ran g (goal.at.returns-in_default-clause-any_moment g c).After-read_active h
+pub returns-in_default-clause-keeps : goal.returns-in_default-clause-keeps
+returns-in_default-clause-keeps g c = ran g (goal.at.returns-in_default-clause-keeps g c).After-read_active
 
-pub returns-clause-any_moment : goal.returns-clause-any_moment
-returns-clause-any_moment g c h = ran g (goal.at.returns-clause-any_moment g c).After-read_active h
+pub returns-clause-keeps : goal.returns-clause-keeps
+returns-clause-keeps g c = ran g (goal.at.returns-clause-keeps g c).After-read_active
 
 -- ---- refusals
 pub returns-in_err-called-clause-refused : goal.returns-in_err-called-clause-refused

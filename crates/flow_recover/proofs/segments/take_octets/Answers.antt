@@ -1,65 +1,28 @@
-use Rattle.std.proofs.Common.{◌≡◌, ℕ, ◌+◌, ◌-◌, ◌≤◌, List, length, take, drop, subst, sym, arith}
-use Rattle.std.proofs.lemmas.List.{length-drop, length-take-le, take_all}
-use Rattle.flow_codec.specs.Cutting.{IsCutOff, IsFileFault}
-use Rattle.flow_codec.specs.Message.{IsAccepted}
+use Rattle.std.proofs.Common.{◌≡◌, ◌+◌, List, ℕ, [], subst, sym, arith}
+use Rattle.std.proofs.lemmas.List.{append-nil}
 use Rattle.flow_disk.proofs.Results.{passed_on}
-use Rattle.flow_measure.specs.History.{Accepted}
-use Rattle.flow_segment.specs.Carry.{carry_with}
-use Rattle.flow_segment.specs.Spans.{noted}
-use Rattle.flow_recover.specs.Reading.{IsOf}
+use Rattle.flow_segment.specs.Prefix.{AreRead}
 use Rattle.flow_manifest.specs.declared.error.OpenError.TheVariants.{OutOfMemory}
-use Rattle.flow_recover.proofs.Accepting.{octets_fault, octets_more, octets_refused}
+use Rattle.flow_recover.proofs.Joining.{all_taken, no_fault_after}
 use Rattle.flow_recover.proofs.segments.take_octets.Goals as goal
 
--- a slice up to the end
-to_end : (octets : List ℕ) (at : ℕ) → take (length octets - at) (drop at octets) ≡ drop at octets
-to_end octets at = take_all (length octets - at) (drop at octets) (omega (arith, length-drop at octets))
+pub returns-clause-found : goal.returns-clause-found
+returns-clause-found c =
+    all_taken c.args.section c.args.octets.now c.args.carry.now c.take_whole.new.carry c.args.span.now
+    c.take_whole.new.span c.in_ok-taken.taken (omega (arith, c.if-taken-octets.false)) c.in_ok-taken.ensures.found
 
-pub returns-in_default-clause-refused : goal.returns-in_default-clause-refused
-returns-in_default-clause-refused c messages read kind =
+pub returns-in_err-taken-clause-refused : goal.returns-in_err-taken-clause-refused
+returns-in_err-taken-clause-refused c messages read kind =
     let octets = c.args.octets.now in
-    let at = c.messages.at in
-    let bad = subst (λ (l : List ℕ). IsFileFault (c.args.from + at) l c.in_default.field-0) (to_end octets at)
-    c.in_default.ensures.fault in
-    absurd (octets_fault c.args.section octets c.args.carry.now c.messages.carry c.args.span.now c.messages.span
-    c.messages.count at
-    (c.args.from + at) messages c.in_default.field-0 c.messages.invariant.so_far c.messages-test.true read kind bad)
+    passed_on c.from_residual.result (c.in_err-taken.field-0).0 (λ e. e ≡ OutOfMemory) c.from_residual.ensures.1
+    (c.in_err-taken.ensures.refused messages []
+    (subst (λ (l : List ℕ). AreRead l c.args.carry.now.templates messages []) (sym (append-nil octets)) read) kind)
 
-pub returns-in_err-take_message-clause-refused : goal.returns-in_err-take_message-clause-refused
-returns-in_err-take_message-clause-refused c messages read kind =
+pub returns-then-taken-octets-clause-refused : goal.returns-then-taken-octets-clause-refused
+returns-then-taken-octets-clause-refused c messages read kind =
     let octets = c.args.octets.now in
-    let at = c.messages.at in
-    let n = c.in-Ok.length in
-    let e = (c.in_err-take_message.field-0).0 in
-    let now = c.messages.carry in
-    let cut = subst (λ (l : List ℕ). IsCutOff (take n l)) (to_end octets at) c.in-Ok.ensures.found.1 in
-    passed_on c.from_residual.result e (λ x. x ≡ OutOfMemory) c.from_residual.ensures.1
-    (octets_refused c.args.section octets c.args.carry.now now c.args.span.now c.messages.span c.messages.count at n
-    messages (e ≡ OutOfMemory) c.messages.invariant.so_far c.messages-test.true cut read kind
-    (λ a is of. c.in_err-take_message.ensures.refused a
-    (subst (λ (l : List ℕ). IsAccepted (take n l) now.templates a.message a.after) (sym (to_end octets at)) is) of))
-
-pub messages-preserved : goal.messages-preserved
-messages-preserved c =
-    let octets = c.args.octets.now in
-    let at = c.messages.at in
-    let n = c.in-Ok.length in
-    let was = c.messages.invariant in
-    let now = c.messages.carry in
-    let new = c.take_message.new.carry in
-    let rest = to_end octets at in
-    let fits = subst (λ (l : List ℕ). n ≤ length l) rest c.in-Ok.ensures.found.0 in
-    let cut = subst (λ (l : List ℕ). IsCutOff (take n l)) rest c.in-Ok.ensures.found.1 in
-    let span = c.messages.span in
-    let noting = c.take_message.new.span in
-    let one = c.in_ok-take_message.ensures.taken in
-    let taken = subst (λ (l : List ℕ). (a : Accepted) × (a.octets ≡ take n l)
-    × IsAccepted (take n l) now.templates a.message a.after × IsOf c.args.section a × (new ≡ carry_with now a)
-    × (noting ≡ noted a.message span))
-    rest (one.0, one.1, one.2, one.3, one.4, c.in_ok-take_message.ensures.noted one.0 one.1 one.2) in
-    record {
-      within = omega (arith, fits, length-drop at octets, was.within);
-      few = omega (arith, cut.long, length-take-le n (drop at octets) fits, was.few);
-      so_far = octets_more c.args.section octets c.args.carry.now now new c.args.span.now span noting
-          c.messages.count at n was.so_far fits cut taken;
-    }
+    let taken = c.in_ok-taken.taken in
+    let fault = c.in_ok-taken.ensures.stopped c.if-taken-octets.true in
+    absurd (no_fault_after c.args.section octets c.args.carry.now c.take_whole.new.carry c.args.span.now
+    c.take_whole.new.span taken (c.args.from + taken.octets) messages fault.0 c.if-taken-octets.true
+    c.in_ok-taken.ensures.found read kind fault.1)

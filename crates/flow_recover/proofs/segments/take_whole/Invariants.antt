@@ -1,6 +1,6 @@
 use Rattle.std.proofs.Common.{◌-◌, ◌≤◌, length}
 use Rattle.flow_recover.proofs.Accepting.{AreOctetsRead}
-use Rattle.flow_recover.proofs.segments.take_octets.Given as goal
+use Rattle.flow_recover.proofs.segments.take_whole.Given as goal
 
 abbrev pub invariant-messages : goal.invariant-messages
 invariant-messages l = record {
