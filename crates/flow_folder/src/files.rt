@@ -3,7 +3,7 @@ ghost use Rattle.std.specs.Prelude.{◌≡◌, IfOk};
 ghost use Rattle.std.specs.List.Sorted.{IsStrictlyIncreasing};
 
 use crate::first_fault::FirstFault;
-use crate::found::{Opened, look_up};
+use crate::found::look_up;
 use crate::naming::path_of;
 use crate::place::{Hold, Place, list_files, read_file};
 use crate::reader::SystemReader;
@@ -72,11 +72,7 @@ where
     pub fn reader(&self, file: u64, size: u64) -> io::Result<SystemReader<'a, R>>
         ensures { IfOk result (λ reader. reader.file ≡ file) }
     {
-        let length = match Opened::look_into(self.rt, self.path_of(file)?.as_str())? {
-            Some(opened) => opened.found.length,
-            None => 0,
-        };
-        if length < size {
+        if self.length(file)? < size {
             return Err(ErrorKind::UnexpectedEof.into());
         }
         Ok(SystemReader {
