@@ -29,8 +29,15 @@ pub fn ended<D: Disk, E: Drop>(given: Result<Archive<D>, Refused<D, E>>) -> Resu
     ensures { result ≡ done_of given }
 {
     match given {
-        Ok(_) => Ok(()),
-        Err(refused) => Err(refused.error),
+        Ok(archive) => {
+            drop(archive);
+            Ok(())
+        }
+        Err(refused) => {
+            let Refused { disk, error } = refused;
+            drop(disk);
+            Err(error)
+        }
     }
 }
 

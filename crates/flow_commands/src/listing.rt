@@ -207,6 +207,23 @@ pub fn flows<D: Disk, W: Write>(
     }
 }
 
+/// Writes these lines of the archive on a disk, and lets the disk go.
+fn write_flows<D: Disk, W: Write>(
+    alloc: Global,
+    disk: D,
+    span: &StartSpan,
+    format: Format,
+    output: &mut W,
+) -> Result<(), ArchiveRefusal>
+    requires { (n : ℕ) → (D.marks disk n).frozen ≡ false }
+    ensures within { OnOk result (Writes (AreFlowsIn format span.now) (W.contents output.old)
+        (W.contents output.new)) }
+    ensures kept_within { IfErr result
+        (λ e. WritesUpTo (AreFlowsIn format span.now) e (W.contents output.old) (W.contents output.new)) }
+{
+    ended(flows(alloc, disk, span, format, output, &mut Faults::new()))
+}
+
 /// Asks the archive of a folder for its flows. Nothing of the folder is changed, and others may ask it meanwhile.
 pub fn flows_in<H: Files + AllocGlobal + Clone + Drop, W: Write>(
     rt: &H,
@@ -226,6 +243,5 @@ where
     ensures kept { IfErr result (λ e. WritesUpTo (AreFlows format) e (W.contents output.old) (W.contents output.new)) }
 {
     let view = FolderView::noting(rt, folder, first_fault)?;
-    let faults = &mut Faults::new();
-    ended(flows(rt.alloc(), view, span, format, output, faults))
+    write_flows(rt.alloc(), view, span, format, output)
 }

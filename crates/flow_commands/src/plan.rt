@@ -224,6 +224,16 @@ impl Workers {
         }
     }
 
+    /// So many, or as many as there are processors where none are given.
+    pub(crate) fn given_or_usual<H: Threads>(rt: &H, given: Option<&Workers>) -> Workers
+        ensures { IfSome given.entry (λ workers. result ≡ workers.now) }
+    {
+        match given {
+            Some(workers) => Workers::new(workers.count()),
+            None => Workers::of_processors(rt),
+        }
+    }
+
     /// How many.
     pub fn count(&self) -> u32
         ensures value { result ≡ self.now }

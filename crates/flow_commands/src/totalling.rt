@@ -245,6 +245,35 @@ where
     }
 }
 
+/// Writes these lines of the archive on a disk, and lets the disk go.
+fn write_sums<H: AllocGlobal + Threads + Sync, D: Disk, W: Write>(
+    rt: &H,
+    disk: D,
+    span: &StartSpan,
+    workers: &Workers,
+    format: Format,
+    output: &mut W,
+) -> Result<(), ArchiveRefusal>
+where
+    D::Sealed: Send + Sync,
+    requires { (n : ℕ) → (D.marks disk n).frozen ≡ false }
+    ensures within { OnOk result (Writes (AreRowsIn format span.now) (W.contents output.old)
+        (W.contents output.new)) }
+    ensures kept_within { IfErr result
+        (λ e. WritesOrNot (AreRowsIn format span.now) e (W.contents output.old) (W.contents output.new)) }
+{
+    ended(totals(
+        rt,
+        rt.alloc(),
+        disk,
+        span,
+        workers,
+        format,
+        output,
+        &mut Faults::new(),
+    ))
+}
+
 /// Asks the archive of a folder for its sums, by so many workers, or as many as there are processors. Nothing of the
 /// folder is changed, and others may ask it meanwhile.
 pub fn totals_in<H: Files + AllocGlobal + Clone + Drop + Threads + Send + Sync, W: Write>(
@@ -266,17 +295,7 @@ where
     ensures written { OnOk result (Writes (AreRows format) (W.contents output.old) (W.contents output.new)) }
     ensures kept { IfErr result (λ e. WritesOrNot (AreRows format) e (W.contents output.old) (W.contents output.new)) }
 {
-    let usual = Workers::of_processors(rt);
-    let workers = workers.unwrap_or(&usual);
     let view = FolderView::noting(rt, folder, first_fault)?;
-    ended(totals(
-        rt,
-        rt.alloc(),
-        view,
-        span,
-        workers,
-        format,
-        output,
-        &mut Faults::new(),
-    ))
+    let workers = Workers::given_or_usual(rt, workers);
+    write_sums(rt, view, span, &workers, format, output)
 }
