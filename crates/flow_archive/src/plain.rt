@@ -13,10 +13,11 @@ use flow_manifest::MOST_MESSAGES;
 use flow_measure::{Row, Rows, SumError, Totals};
 use std::alloc::{AllocError, Global};
 use std::marker::Model;
+use std::mem::replace;
 
 /// A history of accepted messages, held in memory.
 ///
-/// An append copies the templates in force and the sums, so it costs time by their size.
+/// An append copies the sums, so it costs time by their size.
 #[derive(Drop)]
 pub struct PlainArchive {
     messages: Vec<Items<u8>>,
@@ -70,18 +71,20 @@ impl PlainArchive {
             return Err(PlainError::NumbersSpent);
         }
         let message = Items::from_vec(Vec::from_slice(alloc, octets)?);
-        let mut templates = self.templates.try_copy()?;
         let mut totals = Totals {
             rows: self.rows.try_copy()?,
         };
-        match walk_message(&mut templates, alloc, octets, &mut totals) {
+        self.messages.push(message)?;
+        match walk_message(&mut self.templates, alloc, octets, &mut totals) {
             Ok(_) => {}
             Err(WalkError::Sink(SumError::SumSpent)) => unreachable!(),
-            Err(_) => return Err(PlainError::OutOfMemory),
+            Err(_) => {
+                drop(totals);
+                self.messages.truncate(count as usize);
+                return Err(PlainError::OutOfMemory);
+            }
         }
-        self.messages.push(message)?;
-        self.templates = templates;
-        self.rows = totals.rows;
+        drop(replace(&mut self.rows, totals.rows));
         Ok(count + 1)
     }
 

@@ -5,7 +5,7 @@ use Rattle.std.proofs.lemmas.Bool.{cases_eq, false≢true}
 use Rattle.flow_disk.specs.Disk.{Held, IsImage, IsDiskImage, IsWithin, settled_at}
 use Rattle.flow_disk.specs.Moments.{Elapses, Passes}
 use Rattle.flow_directory.specs.File.{Part, octet, size, entry, IsContent, File, held_of, IsUnsure, IsWhole}
-use Rattle.flow_directory.specs.Calls.{IsBetween, IsPut, IsSize, Dirties, KeepsStatus, Rewriting, Retruncating, Syncing}
+use Rattle.flow_directory.specs.Calls.{IsBetween, IsPut, IsSize, Dirties, KeepsStatus, Loses, Rewriting, Retruncating, Syncing}
 use Rattle.flow_pending.specs.declared.pending.Pending.{Pending}
 use Rattle.flow_pending.specs.declared.pending.Stage.TheVariants.{Doubtful}
 use Rattle.flow_pending.specs.Tracked.{IsChangeable, IsRemembered, IsTracked, Repairs, Copies, Settles}
@@ -29,6 +29,14 @@ status_then a b c first second = record {
   linked = second.linked ∙ first.linked;
   read_only = second.read_only ∙ first.read_only;
   lent = second.lent ∙ first.lent;
+}
+
+-- A file may be doubtful after a call that dirties nothing. What was dirty or lost, and is remembered, still is.
+pub doubtful_after : (was now : File) → Loses was now → (pending : Pending) → IsRemembered was pending
+    → IsTracked now (record pending { stage = Doubtful })
+doubtful_after was now loses pending remembered = record {
+  remembered = λ place none unsure. remembered place none (loses.each (octet place) unsure);
+  sure = λ other. absurd (other refl);
 }
 
 module _ {D : Type 0} (files : D → ℕ → File) (moment : D → ℕ) (left : D → ℕ → (ℕ → List ℕ) → Type 0) where

@@ -182,6 +182,22 @@ seal_segment-requires-clause-slots g c h =
     (still.kept.known h (λ n. (held n).reads)
     (λ n. g.met.D.Disk.reads_image c.self.inside.disk n h)).slots_are
 
+pub seal_segment-requires-clause-slot_room : goal.seal_segment-requires-clause-slot_room
+seal_segment-requires-clause-slot_room g c =
+    ((c.self.invariant.0).still_open c.if-self.false).kept.ready.slot_room (other c.self.inside.slots.current_slot)
+
+pub seal_segment-requires-clause-slot_settled : goal.seal_segment-requires-clause-slot_settled
+seal_segment-requires-clause-slot_settled g c =
+    ((c.self.invariant.0).still_open c.if-self.false).kept.ready.slot_settled (other c.self.inside.slots.current_slot)
+
+pub seal_segment-requires-clause-slot_thawed : goal.seal_segment-requires-clause-slot_thawed
+seal_segment-requires-clause-slot_thawed g c =
+    ((c.self.invariant.0).still_open c.if-self.false).kept.ready.slot_thawed (other c.self.inside.slots.current_slot)
+
+pub seal_segment-requires-clause-end : goal.seal_segment-requires-clause-end
+seal_segment-requires-clause-end g c =
+    ((c.self.invariant.0).still_open c.if-self.false).kept.ready.room
+
 pub seal_segment-requires-clause-slot : goal.seal_segment-requires-clause-slot
 seal_segment-requires-clause-slot g c = slot_below (other c.self.inside.slots.current_slot)
 

@@ -32,3 +32,12 @@ returns-clause-covered g c h =
     c.args.self.now.system c.begin_found.new.self.system c.loosen.new.self.system c.args.file
     (c.begin_found.ensures.leaves h) (c.begin_found.ensures.held h) c.args.count covers)
     (c.loosen.ensures.covered k)
+
+pub returns-then-branch-clause-leaves : goal.returns-then-branch-clause-leaves
+returns-then-branch-clause-leaves g c h =
+    let k : IsTrue (g.S.Directory.honest c.begin_found.new.self.system) = honest_then
+    (g.S.Directory.honest c.args.self.now.system) (g.S.Directory.honest c.begin_found.new.self.system)
+    c.begin_found.ensures.honest h in
+    leaves_cut g.S.Directory.files g.S.Directory.moment g.S.Directory.left_since c.args.self.now.system
+    c.begin_found.new.self.system c.cut_pending.new.self.system c.args.file (c.begin_found.ensures.leaves h)
+    (c.begin_found.ensures.held h) c.args.count (c.cut_pending.ensures.leaves k)

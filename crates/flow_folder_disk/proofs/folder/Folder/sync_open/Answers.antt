@@ -2,7 +2,7 @@ use Rattle.std.proofs.Common.{IsTrue, sym, ◌∙◌}
 use Rattle.std.specs.Ordering.{nat_cmp}
 use Rattle.std.specs.BTreeMap.{get}
 use Rattle.flow_directory.specs.File.{held_of}
-use Rattle.flow_folder_disk.proofs.Knowing.{known_one}
+use Rattle.flow_folder_disk.proofs.Knowing.{known_one, known_same}
 use Rattle.flow_folder_disk.proofs.Leaving.{honest_then, leaves_one, leaves_stays, leaves_then, seen_same}
 use Rattle.flow_folder_disk.proofs.Synced.{synced_open, synced_seen}
 use Rattle.flow_folder_disk.proofs.folder.Folder.sync_open.Goals as goal
@@ -40,3 +40,18 @@ returns-in-Ok-clause-leaves g c h =
     (c.sync.ensures.synced h).within
     (leaves_stays g.S.Directory.files g.S.Directory.moment g.S.Directory.left_since c.sync.new.self c.close.new.self
     c.args.file (c.close.ensures.files k) (c.close.ensures.time k))
+
+pub invariant_of-self : goal.invariant_of-self
+invariant_of-self g c = record {
+  known = λ h.
+      let files = g.S.Directory.files in
+      let now = c.args.self.now in
+      let synced : IsTrue (g.S.Directory.honest c.sync.new.self) = sym c.close.ensures.honest ∙ h in
+      let k : IsTrue (g.S.Directory.honest now.system) = sym c.sync.ensures.honest ∙ synced in
+      known_same (files c.sync.new.self) (files c.close.new.self) (λ n. get nat_cmp now.pending n) now.names_pending
+      now.names_lost
+      (known_one (files now.system) (files c.sync.new.self) (λ n. get nat_cmp now.pending n) now.names_pending
+      now.names_lost c.args.file (now.known k) c.requires.absent (c.sync.ensures.others k)
+      (c.sync.ensures.synced k).parts.dirty_entry (c.sync.ensures.synced k).parts.lost_entry)
+      (c.close.ensures.files synced);
+}
