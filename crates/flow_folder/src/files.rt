@@ -3,9 +3,9 @@ ghost use Rattle.std.specs.Prelude.{◌≡◌, IfOk};
 ghost use Rattle.std.specs.List.Sorted.{IsStrictlyIncreasing};
 
 use crate::first_fault::FirstFault;
-use crate::found::look_up;
+use crate::found::{Opened, look_up};
 use crate::naming::path_of;
-use crate::place::{Hold, Place, list_files, read_file};
+use crate::place::{Hold, Place, list_files};
 use crate::reader::SystemReader;
 use crate::system::{FolderError, Lockable};
 use std::alloc::{AllocError, AllocGlobal, Global};
@@ -22,6 +22,14 @@ pub struct FolderFiles<'a, R: Files> {
     rt: &'a R,
     first_fault: &'a FirstFault,
     place: Arc<Place<R::File>>,
+    last: Option<LastRead<R::File>>,
+}
+
+/// The file that was read last. It stays open, since the next piece that is read is mostly of it.
+#[derive(Drop)]
+struct LastRead<F> {
+    number: u64,
+    file: F,
 }
 
 impl<'a, R: Files + AllocGlobal + Clone + Drop> FolderFiles<'a, R>
@@ -37,6 +45,7 @@ where
             rt,
             first_fault,
             place: Arc::new(rt.alloc(), place)?,
+            last: None,
         })
     }
 
@@ -53,9 +62,37 @@ where
         }
     }
 
-    /// Reads octets of a file from a place on.
-    pub fn read(&self, file: u64, at: u64, octets: &mut [u8]) -> io::Result<()> {
-        read_file(self.rt, self.place.path.as_str(), file, at, octets)
+    /// Reads octets of a file from a place on. No octets are read of an absent file too.
+    pub fn read(&mut self, file: u64, at: u64, octets: &mut [u8]) -> io::Result<()> {
+        if octets.is_empty() {
+            return Ok(());
+        }
+        if !self.is_open(file) {
+            self.last = Some(self.open_file(file)?);
+        }
+        match &self.last {
+            Some(last) => last.file.read_exact_at(octets, at),
+            None => Err(ErrorKind::NotFound.into()),
+        }
+    }
+
+    /// Whether a file is the one that was read last.
+    fn is_open(&self, file: u64) -> bool {
+        match &self.last {
+            Some(last) => last.number == file,
+            None => false,
+        }
+    }
+
+    /// Opens a file that exists.
+    fn open_file(&self, file: u64) -> io::Result<LastRead<R::File>> {
+        match Opened::look_into(self.rt, self.path_of(file)?.as_str())? {
+            Some(opened) => Ok(LastRead {
+                number: file,
+                file: opened.file,
+            }),
+            None => Err(ErrorKind::NotFound.into()),
+        }
     }
 
     /// The files' numbers, ascending.

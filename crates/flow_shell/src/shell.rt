@@ -77,6 +77,7 @@ where
     };
     let alloc = rt.alloc();
     let Ok(input) = BufReader::new(alloc, input) else {
+        drop(reader);
         return Err(ArchiveRefusal::OutOfMemory);
     };
     let mut asking = Asking {
@@ -121,8 +122,12 @@ where
 {
     let limit = archive.limit();
     let width = archive.width();
-    let Ok((shared, readers)) = start::<D, J, H>(rt.alloc(), archive, opened, 1) else {
-        return Err(ArchiveRefusal::OutOfMemory);
+    let (shared, readers) = match start::<D, J, H>(rt.alloc(), archive, opened, 1) {
+        Ok(shared) => shared,
+        Err(archive) => {
+            drop(archive);
+            return Err(ArchiveRefusal::OutOfMemory);
+        }
     };
     let mut readers = readers;
     let served = serve_reader::<H, D, J, Brand, R, W>(
