@@ -75,6 +75,13 @@ def words(crates, crate):
     return [*found, "--links", crate + "=", "--jobs", "1"]
 
 
+def judged(all_words, crate, folder, places):
+    """Checks a crate with a wrong body in it: the functions that it changes, or all where it is in none."""
+    if places:
+        return wrong_bodies.check_only(all_words, crate, folder, places)
+    return wrong_bodies.checked(all_words, folder)
+
+
 def edits_tried(crates, crate, names):
     """Tries wrong bodies of a crate, each alone in a copy of its folder: whether each is refused by a clause."""
     own = "crates/%s/edits" % crate
@@ -88,11 +95,7 @@ def edits_tried(crates, crate, names):
             places = edit.functions(folder)
             said = (wrong_bodies.BAD, "")
             if edit.apply(folder):
-                only = [wrong_bodies.path_of(folder, *it) for it in sorted(places)]
-                named = [word for it in only for word in ("--only", it)]
-                ran = subprocess.run([*words(crates, crate), *named], cwd=folder, stdout=subprocess.PIPE,
-                                     stderr=subprocess.STDOUT, text=True)
-                said = wrong_bodies.verdict(edit, places, ran.stdout)
+                said = wrong_bodies.verdict(edit, places, judged(words(crates, crate), crate, folder, places).stdout)
             well = well and said[0] == wrong_bodies.REFUSED and said[1] != wrong_bodies.ONLY_GONE
             print("%s/%s: %s%s" % (crate, edit.name, said[0], said[1] and " (%s)" % said[1]), flush=True)
     return 0 if well else 1

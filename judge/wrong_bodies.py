@@ -8,13 +8,15 @@ from 0, so that shares can be tried side by side; the gate calls it.
 Many are tried in one check of their crate, at most one of each function: what is proved of a function rests on the
 contracts of those that it calls, and not on their bodies, so each is judged by its own function's verdict. One whose
 function couldn't be judged beside the others is tried again, and one that is in no function alone. Where `./verify` has
-proved the crates below in this clone as they are now, the functions that are changed, and those that they call, are
-checked over the libraries that it left. Else, but not with `--gate`, libraries and work that earlier checks kept are
-used, or made first, which takes as long as proving the crates.
+proved the crates below in this clone as they are now, the functions that are changed are checked over the libraries that
+it left; the other functions of the crate have a hole in place of a proof, which the prover takes by the contract. Else,
+but not with `--gate`, libraries and work that earlier checks kept are used, or made first, which takes as long as
+proving the crates.
 Prints a line for each, and ends with 'N refused, K only where a proof names what is gone, M not refused': the K aren't
 among the N, since a proof that names what a body took away says nothing of the contract; status 0 only where M is 0,
 and with `--gate` K too."""
 import concurrent.futures
+import contextlib
 import glob
 import hashlib
 import os
@@ -32,8 +34,16 @@ ONLY_GONE = "only where its proof names what is gone"
 # What a function's line says where it wasn't judged, since one that it calls is refused.
 BLOCKED = re.compile(r"(no proof: |not proved; )?(it calls |it waits |it passes )")
 
-# How a function's line begins where it is proved; of a closure, where what it asks is given.
-HOLDS = re.compile(r"proved(, | where its callers give what it asks|$)")
+# How a function's line begins where it is proved, or would be if each hole that it rests on were filled; of a closure,
+# where what it asks is given.
+HOLDS = re.compile(r"proved(, | where its callers give what it asks|$)|no holes|depends on a hole in ")
+
+# A proof that is a hole, of a function by its path's parts and its name.
+HOLE = """use Rattle.%s.Statement.{statement}
+
+pub %s_spec : {M : Type 1} → statement M
+%s_spec = ?
+"""
 
 # How antt says that a proof names what an edit took away: that refuses the body too, but says little of its contract.
 GONE = re.compile(r"has no field|is not in scope|has no `|was not admitted")
@@ -156,6 +166,49 @@ def sets_of(edits, folder):
     return [members for _, members in sets]
 
 
+@contextlib.contextmanager
+def taken_by_contract(crate, folder, proved):
+    """While it lasts each function of a crate, in a copy of its folder, has a hole in place of a proof, but those that are
+    to be proved, methods of traits, and functions that call one another."""
+    proofs = os.path.join(folder, "proofs")
+    aside = folder + ".proofs"
+    shutil.copytree(proofs, aside)
+    try:
+        for path in functions_of(folder) - set(proved):
+            own = os.path.join(proofs, *path.split("::"))
+            for file in ("Answers.antt", "Invariants.antt"):
+                if os.path.exists(os.path.join(own, file)):
+                    os.remove(os.path.join(own, file))
+            os.makedirs(own, exist_ok=True)
+            name = path.split("::")[-1]
+            with open(os.path.join(own, "Proof.antt"), "w") as to:
+                to.write(HOLE % (".".join([crate, "proofs", *path.split("::")]), name, name))
+        yield
+    finally:
+        shutil.rmtree(proofs)
+        os.rename(aside, proofs)
+
+
+def functions_of(folder):
+    """The paths of a crate's functions and of its types' own methods, but for those of its root, those that call one
+    another, and tests."""
+    found = set()
+    for at, _, files in os.walk(os.path.join(folder, "src")):
+        for file in (it for it in files if it.endswith(".rt")):
+            with open(os.path.join(at, file)) as text:
+                text = text.read()
+            lines, module = text.split("\n"), os.path.relpath(os.path.join(at, file), os.path.join(folder, "src"))
+            module = module[: -len(".rt")].replace("/", "::").removesuffix("::mod")
+            if module in ("lib", "main"):
+                continue
+            for owner, name, first, _ in functions_in(text):
+                before = lines[first - 1].strip()
+                is_of_trait = not owner.isalnum() if owner else lines[first].startswith(" ")
+                if not is_of_trait and not before.startswith(("#[cycle", "#[test")):
+                    found.add(path_of(folder, module, owner, name))
+    return found
+
+
 def check_kept(folder, _):
     """Checks a crate in a copy of the repository, over what earlier checks kept: what is printed."""
     words = ["rt", "check", "--jobs", "1"]
@@ -238,14 +291,23 @@ class OverProved:
     def __call__(self, folder, members):
         """Checks the functions that these wrong bodies change, or the whole crate where one is in no function: what is
         printed."""
-        only = [path_of(folder, *it) for _, places in members for it in sorted(places)]
-        ran = None
-        for paths in [only] * all(places for _, places in members) + [[]]:
-            words = [*self.words(), *(word for it in paths for word in ("--only", it))]
-            ran = subprocess.run(words, cwd=folder, stdout=subprocess.PIPE, stderr=subprocess.STDOUT, text=True)
+        if all(places for _, places in members):
+            ran = check_only(self.words(), self.crate, folder, {it for _, places in members for it in places})
             if ran.returncode != 2:
-                break
-        return ran.stdout
+                return ran.stdout
+        return checked(self.words(), folder).stdout
+
+
+def checked(words, folder):
+    """Runs the prover in a copy of a crate's folder."""
+    return subprocess.run(words, cwd=folder, stdout=subprocess.PIPE, stderr=subprocess.STDOUT, text=True)
+
+
+def check_only(words, crate, folder, places):
+    """Checks some functions of a crate, in a copy of its folder, by the contracts of those that they call."""
+    paths = sorted(path_of(folder, *it) for it in places)
+    with taken_by_contract(crate, folder, paths):
+        return checked([*words, "--allow-holes", "--short-goals", *(word for it in paths for word in ("--only", it))], folder)
 
 
 def path_of(folder, module, owner, name):

@@ -3,7 +3,7 @@ ghost use Rattle.std.specs.Prelude.{◌≡◌, IfOk};
 ghost use Rattle.std.specs.List.Sorted.{IsStrictlyIncreasing};
 
 use crate::first_fault::FirstFault;
-use crate::found::{Opened, look_up};
+use crate::found::{Found, Opened, look_up};
 use crate::naming::path_of;
 use crate::place::{Hold, Place, list_files};
 use crate::reader::SystemReader;
@@ -22,14 +22,16 @@ pub struct FolderFiles<'a, R: Files> {
     rt: &'a R,
     first_fault: &'a FirstFault,
     place: Arc<Place<R::File>>,
-    last: Option<LastRead<R::File>>,
+    last: Option<Last<R::File>>,
 }
 
-/// The file that was read last. It stays open, since the next piece that is read is mostly of it.
+/// The file that was looked at last, as its name was found, and its handle once it was read: it stays open, since the
+/// next piece that is read is mostly of it.
 #[derive(Drop)]
-struct LastRead<F> {
+struct Last<F> {
     number: u64,
-    file: F,
+    found: Found,
+    handle: Option<F>,
 }
 
 impl<'a, R: Files + AllocGlobal + Clone + Drop> FolderFiles<'a, R>
@@ -54,10 +56,19 @@ where
         self.first_fault.note(error);
     }
 
-    /// How many octets a file has.
-    pub fn length(&self, file: u64) -> io::Result<u64> {
+    /// How many octets a file has. It is looked for by its name, which isn't looked at again to open it or to lend it
+    /// next.
+    pub fn length(&mut self, file: u64) -> io::Result<u64> {
+        self.last = None;
         match look_up(self.rt, self.path_of(file)?.as_str())? {
-            Some(found) => Ok(found.length),
+            Some(found) => {
+                self.last = Some(Last {
+                    number: file,
+                    found,
+                    handle: None,
+                });
+                Ok(found.length)
+            }
             None => Ok(0),
         }
     }
@@ -68,30 +79,48 @@ where
             return Ok(());
         }
         if !self.is_open(file) {
-            self.last = Some(self.open_file(file)?);
+            self.open_file(file)?;
         }
         match &self.last {
-            Some(last) => last.file.read_exact_at(octets, at),
-            None => Err(ErrorKind::NotFound.into()),
+            Some(
+                Last {
+                    handle: Some(handle),
+                    ..
+                },
+            ) => handle.read_exact_at(octets, at),
+            _ => Err(ErrorKind::NotFound.into()),
         }
     }
 
-    /// Whether a file is the one that was read last.
+    /// Whether a file is open.
     fn is_open(&self, file: u64) -> bool {
         match &self.last {
-            Some(last) => last.number == file,
+            Some(last) => last.number == file && last.handle.is_some(),
             None => false,
         }
     }
 
-    /// Opens a file that exists.
-    fn open_file(&self, file: u64) -> io::Result<LastRead<R::File>> {
-        match Opened::look_into(self.rt, self.path_of(file)?.as_str())? {
-            Some(opened) => Ok(LastRead {
-                number: file,
-                file: opened.file,
-            }),
-            None => Err(ErrorKind::NotFound.into()),
+    /// Opens a file that exists; the one that was open is closed.
+    fn open_file(&mut self, file: u64) -> io::Result<()> {
+        let path = self.path_of(file)?;
+        let Some(found) = self.look_at(file, path.as_str())? else {
+            return Err(ErrorKind::NotFound.into());
+        };
+        self.last = None;
+        let opened = Opened::open(self.rt, path.as_str(), found, false)?;
+        self.last = Some(Last {
+            number: file,
+            found: opened.found,
+            handle: Some(opened.file),
+        });
+        Ok(())
+    }
+
+    /// What the name of a file led to, at the last look if that was at this one; there may be no such name.
+    fn look_at(&self, file: u64, path: &str) -> io::Result<Option<Found>> {
+        match &self.last {
+            Some(last) if last.number == file => Ok(Some(last.found)),
+            _ => look_up(self.rt, path),
         }
     }
 
@@ -109,8 +138,10 @@ where
     pub fn reader(&self, file: u64, size: u64) -> io::Result<SystemReader<'a, R>>
         ensures { IfOk result (λ reader. reader.file ≡ file) }
     {
-        if self.length(file)? < size {
-            return Err(ErrorKind::UnexpectedEof.into());
+        match self.look_at(file, self.path_of(file)?.as_str())? {
+            Some(found) if found.length >= size => {}
+            None if size == 0 => {}
+            _ => return Err(ErrorKind::UnexpectedEof.into()),
         }
         Ok(SystemReader {
             rt: self.rt,

@@ -107,9 +107,12 @@ where
 
     /// How many octets a file has: one that was changed here those that were reported since, each other one those in
     /// the folder.
-    fn length_of(&self, file: u64) -> io::Result<u64>
-        ensures { is_some (get nat_cmp self.now.changes.changes file) ≡ true
-            → result ≡ Ok (marks_in self.now.table file).size }
+    fn length_of(&mut self, file: u64) -> io::Result<u64>
+        ensures changed { is_some (get nat_cmp self.old.changes.changes file) ≡ true
+            → result ≡ Ok (marks_in self.old.table file).size }
+        ensures changes { self.new.changes ≡ self.old.changes }
+        ensures table { self.new.table ≡ self.old.table }
+        ensures failed { self.new.failed ≡ self.old.failed }
     {
         if self.changes.has(file) {
             return Ok(self.table.of(file).size);
