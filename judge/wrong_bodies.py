@@ -9,9 +9,9 @@ Many are tried in one check of their crate, at most one of each function: what i
 contracts of those that it calls, and not on their bodies, so each is judged by its own function's verdict. One whose
 function couldn't be judged beside the others is tried again, and one that is in no function alone. Where `./verify` has
 proved the crates below in this clone as they are now, the functions that are changed are checked over the libraries that
-it left; the other functions of the crate have a hole in place of a proof, which the prover takes by the contract. Else,
-but not with `--gate`, libraries and work that earlier checks kept are used, or made first, which takes as long as
-proving the crates.
+it left; the other functions of the crate have a body that does nothing, and a hole in place of a proof, which the prover
+takes by the contract. Else, but not with `--gate`, libraries and work that earlier checks kept are used, or made first,
+which takes as long as proving the crates.
 Prints a line for each, and ends with 'N refused, K only where a proof names what is gone, M not refused': the K aren't
 among the N, since a proof that names what a body took away says nothing of the contract; status 0 only where M is 0,
 and with `--gate` K too."""
@@ -168,44 +168,57 @@ def sets_of(edits, folder):
 
 @contextlib.contextmanager
 def taken_by_contract(crate, folder, proved):
-    """While it lasts each function of a crate, in a copy of its folder, has a hole in place of a proof, but those that are
-    to be proved, methods of traits, and functions that call one another."""
-    proofs = os.path.join(folder, "proofs")
-    aside = folder + ".proofs"
-    shutil.copytree(proofs, aside)
+    """While it lasts each function of a crate, in a copy of its folder, has a body that does nothing, and a hole in place
+    of a proof, but those that are to be proved, methods of traits, and functions that call one another."""
+    parts = [os.path.join(folder, it) for it in ("src", "proofs")]
+    os.makedirs(parts[1], exist_ok=True)
+    for part in parts:
+        shutil.copytree(part, part + ".aside")
     try:
-        for path in functions_of(folder) - set(proved):
-            own = os.path.join(proofs, *path.split("::"))
-            for file in ("Answers.antt", "Invariants.antt"):
-                if os.path.exists(os.path.join(own, file)):
-                    os.remove(os.path.join(own, file))
-            os.makedirs(own, exist_ok=True)
-            name = path.split("::")[-1]
-            with open(os.path.join(own, "Proof.antt"), "w") as to:
-                to.write(HOLE % (".".join([crate, "proofs", *path.split("::")]), name, name))
+        for file, functions in functions_of(folder).items():
+            with open(file) as text:
+                lines = text.read().split("\n")
+            for path, first, last in reversed(functions):
+                if path not in proved:
+                    lines[first + 1 : last] = ["loop {}"]
+                    give_hole(crate, folder, path)
+            with open(file, "w") as to:
+                to.write("\n".join(lines))
         yield
     finally:
-        shutil.rmtree(proofs)
-        os.rename(aside, proofs)
+        for part in parts:
+            shutil.rmtree(part)
+            os.rename(part + ".aside", part)
+
+
+def give_hole(crate, folder, path):
+    """Puts a hole in place of the proof of a function."""
+    own, name = os.path.join(folder, "proofs", *path.split("::")), path.split("::")[-1]
+    for file in ("Answers.antt", "Invariants.antt"):
+        if os.path.exists(os.path.join(own, file)):
+            os.remove(os.path.join(own, file))
+    os.makedirs(own, exist_ok=True)
+    with open(os.path.join(own, "Proof.antt"), "w") as to:
+        to.write(HOLE % (".".join([crate, "proofs", *path.split("::")]), name, name))
 
 
 def functions_of(folder):
-    """The paths of a crate's functions and of its types' own methods, but for those of its root, those that call one
-    another, and tests."""
-    found = set()
+    """The functions and types' own methods of a crate, but for those of its root, those that call one another, and
+    tests: of each file, in its order, their paths, and the lines between which their bodies are."""
+    found = {}
     for at, _, files in os.walk(os.path.join(folder, "src")):
-        for file in (it for it in files if it.endswith(".rt")):
-            with open(os.path.join(at, file)) as text:
+        for file in (os.path.join(at, it) for it in files if it.endswith(".rt")):
+            with open(file) as text:
                 text = text.read()
-            lines, module = text.split("\n"), os.path.relpath(os.path.join(at, file), os.path.join(folder, "src"))
+            lines, module = text.split("\n"), os.path.relpath(file, os.path.join(folder, "src"))
             module = module[: -len(".rt")].replace("/", "::").removesuffix("::mod")
-            if module in ("lib", "main"):
-                continue
-            for owner, name, first, _ in functions_in(text):
-                before = lines[first - 1].strip()
-                is_of_trait = not owner.isalnum() if owner else lines[first].startswith(" ")
-                if not is_of_trait and not before.startswith(("#[cycle", "#[test")):
-                    found.add(path_of(folder, module, owner, name))
+            for owner, name, head, last in functions_in(text) if module not in ("lib", "main") else []:
+                before, indent = lines[head - 1].strip(), re.match(" *", lines[head])[0]
+                is_of_trait = not owner.isalnum() if owner else indent
+                opened = re.compile(indent + r"(\S.*)?\{")
+                first = next((it for it in range(head, last) if opened.fullmatch(lines[it])), None)
+                if first is not None and not is_of_trait and not before.startswith(("#[cycle", "#[test")):
+                    found.setdefault(file, []).append((path_of(folder, module, owner, name), first, last))
     return found
 
 
@@ -307,7 +320,8 @@ def check_only(words, crate, folder, places):
     """Checks some functions of a crate, in a copy of its folder, by the contracts of those that they call."""
     paths = sorted(path_of(folder, *it) for it in places)
     with taken_by_contract(crate, folder, paths):
-        return checked([*words, "--allow-holes", "--short-goals", *(word for it in paths for word in ("--only", it))], folder)
+        only = [word for it in paths for word in ("--only", it)]
+        return checked([*words, "--allow-holes", "--short-goals", *only], folder)
 
 
 def path_of(folder, module, owner, name):

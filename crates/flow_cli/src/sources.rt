@@ -1,4 +1,4 @@
 //! What the program is built from: `./renew-release --stamp` writes this file.
 
 /// The version, and the first digits of the sum of the sources.
-pub const VERSION: &str = "1.9.6 (sources b92e71f063bc)";
+pub const VERSION: &str = "1.9.6 (sources 1725a098b8a7)";
