@@ -132,6 +132,7 @@ def verdict(edit, places, said):
         return UNJUDGED, ""
     if not places:
         return (REFUSED, "alone") if "logic=not-proved" in ends else (PROVED, "")
+    all_of_them = dict(it.groups() for it in map(re.compile(r"fn (\S+): (.*)").match, lines) if it)
     found = []
     for module, owner, name in places:
         # (a method is named by its type's module, which needn't be that of the `impl`; a function's closures are its own)
@@ -139,7 +140,7 @@ def verdict(edit, places, said):
         of_it = r"fn %s::(?:%s::%s|%s::fn::(?:\w+::)*%s::\S+): (.*)" % (edit.crate, before, name, module, name)
         own = [it[1] for it in map(re.compile(of_it).match, lines) if it]
         bad = [it for it in own if not HOLDS.match(it)]
-        if [it for it in bad if not BLOCKED.match(it)]:
+        if [it for it in bad if not is_blocked(it, all_of_them)]:
             in_proof = re.compile(r"(\./)?proofs/(\S*/)?%s/.*: error" % name)
             errors = [it for it in lines if in_proof.match(it)]
             only = bool(errors) and all(map(GONE.search, errors)) and not any("did not prove" in it for it in bad)
@@ -149,6 +150,12 @@ def verdict(edit, places, said):
         else:
             found.append((PROVED, ""))
     return min(found, key=lambda it: (REFUSED, UNJUDGED, PROVED).index(it[0]))
+
+
+def is_blocked(line, all_of_them):
+    """Whether a function's line says no more than that one that it calls is refused; one with a hole isn't."""
+    named = [it for it in re.findall("`([^`]+)`", line) if it in all_of_them]
+    return BLOCKED.match(line) and not (named and all(HOLDS.match(all_of_them[it]) for it in named))
 
 
 def sets_of(edits, folder):

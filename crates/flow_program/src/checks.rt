@@ -19,12 +19,15 @@ use crate::side_by_side::Checks;
 use crate::telling::{DONE, tell};
 use flow_commands::ArchiveRefusal;
 use flow_disk::Disk;
+use flow_folder::{FirstFault, Lockable};
 use flow_report::{Patience, Refusal, write_patiently};
-use flow_several_folders::Opener;
+use flow_several_folders::{FolderViews, Opener};
 use flow_side_by_side::at_once;
 use itoa::Buffer;
 use std::alloc::{AllocError, AllocGlobal, Global};
+use std::fs::Files;
 use std::io::Write;
+use std::os::unix::fs::FileExt;
 use std::thread::Threads;
 
 /// Puts an octet after a text, and before it an archive's number, where it begins a line.
@@ -145,4 +148,32 @@ where
         }
     }
     greatest
+}
+
+/// Runs `check` over the archives of these folders of the system, which it reads alone. What the system says of the first
+/// call that fails is noted.
+pub(crate) fn run_folder_checks<
+    'a,
+    H: Files + AllocGlobal + Clone + Drop + Threads + Send + Sync,
+    W: Write,
+    E: Write,
+>(
+    rt: &'a H,
+    first_fault: &'a FirstFault,
+    folders: &FolderNames<'a>,
+    files: bool,
+    output: &mut W,
+    errors: &mut E,
+) -> u8
+where
+    H::File: FileExt + Lockable + Send + Sync,
+    H::Dir: Send + Sync,
+    ensures runs { ChecksEnd (MayBeOutcome files) folders.now (W.contents output.old) (W.contents output.new)
+        (E.contents errors.old) (E.contents errors.new) result }
+    ensures quiet { result ≡ 0 → Keeps (E.contents errors.old) (E.contents errors.new) }
+    ensures status { result ≤ 5 }
+    ensures other { result ≢ 2 }
+{
+    let opener = FolderViews::new(rt, first_fault);
+    run_checks(rt, &opener, folders, files, output, errors)
 }

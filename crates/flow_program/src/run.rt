@@ -8,13 +8,13 @@ use crate::archives::{
     run_check, run_check_files, run_create, run_feed, run_flows, run_job, run_records, run_shell,
     run_totals,
 };
-use crate::checks::run_checks;
+use crate::checks::run_folder_checks;
 use crate::explaining::Explanation;
 use crate::exporting::{run_export, run_export_by_time, run_templates};
 use crate::inspecting::run_inspect_files;
 use crate::refusing::refuse;
 use crate::request::{Request, parse};
-use crate::several::{run_several, totals_wanted};
+use crate::several::{run_several_folders, totals_wanted};
 use crate::telling::{DONE, tell, write_octets};
 use flow_commands::{Progress, tell_fault, warn_of_input};
 use flow_disk::Disk;
@@ -23,7 +23,7 @@ use flow_folder_view::FolderView;
 use flow_inspect::inspect;
 use flow_manifest::JobKind;
 use flow_report::{Format, Width, dump, measure};
-use flow_several_folders::{FolderViews, Wanted};
+use flow_several_folders::Wanted;
 use std::alloc::{AllocGlobal, Global};
 use std::convert::AsStr;
 use std::fs::Files;
@@ -157,14 +157,9 @@ where
         Request::Create { folder, plan } => run_create(rt, folder, plan, errors, progress),
         Request::Check { folder } => run_check(rt, folder, first_fault, output, errors),
         Request::CheckFiles { folder } => run_check_files(rt, folder, first_fault, output, errors),
-        Request::CheckSeveral { folders, files } => run_checks(
-            rt,
-            &FolderViews::new(rt, first_fault),
-            folders,
-            *files,
-            output,
-            errors,
-        ),
+        Request::CheckSeveral { folders, files } => {
+            run_folder_checks(rt, first_fault, folders, *files, output, errors)
+        }
         Request::Totals {
             folder,
             span,
@@ -185,9 +180,9 @@ where
             span,
             each,
             format,
-        } => run_several(
+        } => run_several_folders(
             rt,
-            &FolderViews::new(rt, first_fault),
+            first_fault,
             folders,
             *span,
             totals_wanted(*each),
@@ -204,9 +199,9 @@ where
             folders,
             span,
             format,
-        } => run_several(
+        } => run_several_folders(
             rt,
-            &FolderViews::new(rt, first_fault),
+            first_fault,
             folders,
             *span,
             Wanted::FlowsOfEach,

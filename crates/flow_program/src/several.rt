@@ -14,11 +14,14 @@ use crate::arguments::{FolderNames, MomentSpan};
 use crate::telling::{DONE, NO_MEMORY, tell_line, tell_of_archive, told_lines};
 use flow_commands::{ArchiveRefusal, StartSpan};
 use flow_disk::{Disk, Faults};
+use flow_folder::{FirstFault, Lockable};
 use flow_report::Format;
 use flow_several::SeveralRefusal;
-use flow_several_folders::{FoldersRefusal, Opener, Question, Wanted, ask_folders};
+use flow_several_folders::{FolderViews, FoldersRefusal, Opener, Question, Wanted, ask_folders};
 use std::alloc::{AllocError, AllocGlobal, Global};
+use std::fs::Files;
 use std::io::Write;
+use std::os::unix::fs::FileExt;
 use std::thread::Threads;
 use std::time::Clock;
 
@@ -177,4 +180,34 @@ where
         Ok(()) => DONE,
         Err(refusal) => report_folders(alloc, errors, refusal),
     }
+}
+
+/// Runs `totals` or `flows` over the archives of these folders of the system, which it reads alone. What the system says
+/// of the first call that fails is noted.
+pub(crate) fn run_several_folders<
+    'a,
+    H: Files + AllocGlobal + Clock + Clone + Drop + Threads + Send + Sync,
+    W: Write,
+    E: Write,
+>(
+    rt: &'a H,
+    first_fault: &'a FirstFault,
+    folders: &FolderNames<'a>,
+    span: MomentSpan,
+    wanted: Wanted,
+    format: Format,
+    output: &mut W,
+    errors: &mut E,
+) -> u8
+where
+    H::File: FileExt + Lockable + Send + Sync,
+    H::Dir: Send + Sync,
+    ensures runs { SeveralEnd (length folders.now) span wanted format (W.contents output.old) (W.contents output.new)
+        (E.contents errors.old) (E.contents errors.new) result }
+    ensures quiet { result ≡ 0 → Keeps (E.contents errors.old) (E.contents errors.new) }
+    ensures status { result ≤ 5 }
+    ensures other { result ≢ 2 }
+{
+    let opener = FolderViews::new(rt, first_fault);
+    run_several(rt, &opener, folders, span, wanted, format, output, errors)
 }

@@ -4,16 +4,16 @@ use Rattle.flow_program.proofs.run.run.Goals as goal
 pub returns-in-TotalsOfSeveral-clause-runs : goal.returns-in-TotalsOfSeveral-clause-runs
 returns-in-TotalsOfSeveral-clause-runs g c =
     rw c.in-TotalsOfSeveral.is
-    (Keeps-refl (g.R.Read.remaining c.args.input.now), rw c.totals_wanted.ensures at c.run_several.ensures.runs)
+    (Keeps-refl (g.R.Read.remaining c.args.input.now), rw c.totals_wanted.ensures at c.run_several_folders.ensures.runs)
 
 pub returns-in-FlowsOfSeveral-clause-runs : goal.returns-in-FlowsOfSeveral-clause-runs
 returns-in-FlowsOfSeveral-clause-runs g c =
     rw c.in-FlowsOfSeveral.is
-    (Keeps-refl (g.R.Read.remaining c.args.input.now), c.run_several-in-FlowsOfSeveral.ensures.runs)
+    (Keeps-refl (g.R.Read.remaining c.args.input.now), c.run_several_folders-in-FlowsOfSeveral.ensures.runs)
 
 pub returns-in-CheckSeveral-clause-runs : goal.returns-in-CheckSeveral-clause-runs
 returns-in-CheckSeveral-clause-runs g c =
-    rw c.in-CheckSeveral.is (Keeps-refl (g.R.Read.remaining c.args.input.now), c.run_checks.ensures.runs)
+    rw c.in-CheckSeveral.is (Keeps-refl (g.R.Read.remaining c.args.input.now), c.run_folder_checks.ensures.runs)
 
 pub returns-in-Export-clause-runs : goal.returns-in-Export-clause-runs
 returns-in-Export-clause-runs g c =
