@@ -3,6 +3,10 @@
 libraries of the crates below that `rt ci` proved last on this machine, in whichever checkout: seconds, where `rt check`
 makes libraries of its own first, for a crate of the program some ten minutes. FLAGs are the prover's, as --allow-holes.
 
+over_kept.py --alone CRATE FUNCTION..: checks these functions so, and none that they call, whose contracts are taken:
+the bodies and proofs of these take most of the first form's time. It prints what isn't proved, and ends with 'N of M
+proved, by the contracts of what they call' and status 0 where that is all.
+
 over_kept.py --edits CRATE [NAME..]: tries wrong bodies of crates/CRATE/edits/ so, or of its gate/, one by one, all of
 edits/ where none is named: prints what the prover says of each, as judge/wrong_bodies.py does, and ends with status 0
 where each is refused, and none only where a proof names what is gone.
@@ -78,7 +82,8 @@ def words(crates, crate):
 def judged(all_words, crate, folder, places):
     """Checks a crate with a wrong body in it: the functions that it changes, or all where it is in none."""
     if places:
-        return wrong_bodies.check_only(all_words, crate, folder, places)
+        paths = sorted(wrong_bodies.path_of(folder, *it) for it in places)
+        return wrong_bodies.check_only(all_words, crate, folder, paths)
     return wrong_bodies.checked(all_words, folder)
 
 
@@ -99,6 +104,23 @@ def edits_tried(crates, crate, names):
             well = well and said[0] == wrong_bodies.REFUSED and said[1] != wrong_bodies.ONLY_GONE
             print("%s/%s: %s%s" % (crate, edit.name, said[0], said[1] and " (%s)" % said[1]), flush=True)
     return 0 if well else 1
+
+
+def alone(all_words, crate, paths):
+    """Checks some functions of a crate by the contracts of those that they call."""
+    with tempfile.TemporaryDirectory() as room:
+        folder = os.path.join(room, crate)
+        shutil.copytree("crates/" + crate, folder, ignore=shutil.ignore_patterns("out"))
+        printed = wrong_bodies.check_only(all_words, crate, folder, paths).stdout
+    proved = 0
+    for line in printed.splitlines():
+        own = re.match(r"fn (\S+): (.*)", line)
+        if own and wrong_bodies.HOLDS.match(own[2]):
+            proved += own[1].endswith(tuple("::" + path for path in paths))
+        elif own or ": error" in line or "is not proved that" in line:
+            print(line)
+    print("%d of %d proved, by the contracts of what they call" % (proved, len(paths)))
+    return int(proved < len(paths))
 
 
 def spent(process):
@@ -180,7 +202,7 @@ def parted(crates, crate, only):
 
 
 def main():
-    form = sys.argv[1] if sys.argv[1:2] in (["--edits"], ["--times"], ["--parts"]) else ""
+    form = sys.argv[1] if sys.argv[1:2] in (["--alone"], ["--edits"], ["--times"], ["--parts"]) else ""
     given = sys.argv[2:] if form else sys.argv[1:]
     if not given or given[0].startswith("-"):
         print(__doc__)
@@ -191,6 +213,8 @@ def main():
     if lacking:
         print("rt ci has kept nothing of: %s" % " ".join(lacking))
         return 1
+    if form == "--alone" and rest:
+        return alone(words(crates, crate), crate, rest)
     if form == "--edits":
         return edits_tried(crates, crate, rest)
     only = [word for it in rest if not it.startswith("-") for word in ("--only", it)]

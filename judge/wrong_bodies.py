@@ -312,7 +312,8 @@ class OverProved:
         """Checks the functions that these wrong bodies change, or the whole crate where one is in no function: what is
         printed."""
         if all(places for _, places in members):
-            ran = check_only(self.words(), self.crate, folder, {it for _, places in members for it in places})
+            paths = sorted({path_of(folder, *it) for _, places in members for it in places})
+            ran = check_only(self.words(), self.crate, folder, paths)
             if ran.returncode != 2:
                 return ran.stdout
         return checked(self.words(), folder).stdout
@@ -323,11 +324,10 @@ def checked(words, folder):
     return subprocess.run(words, cwd=folder, stdout=subprocess.PIPE, stderr=subprocess.STDOUT, text=True)
 
 
-def check_only(words, crate, folder, places):
+def check_only(words, crate, folder, paths):
     """Checks some functions of a crate, in a copy of its folder, by the contracts of those that they call."""
-    paths = sorted(path_of(folder, *it) for it in places)
+    only = [word for it in paths for word in ("--only", it)]
     with taken_by_contract(crate, folder, paths):
-        only = [word for it in paths for word in ("--only", it)]
         return checked([*words, "--allow-holes", "--short-goals", *only], folder)
 
 
