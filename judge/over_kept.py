@@ -15,15 +15,16 @@ over_kept.py --times CRATE [FUNCTION..]: checks all of it so, or these functions
 how many processor seconds each took, the longest first, counted from the end of the one before it to its own; those of
 the first to end, which is marked, are also what loading took. Stopped by Ctrl-C, it prints those of what has ended.
 
-over_kept.py --parts CRATE [FUNCTION..]: checks the same, and prints how many processor seconds each part of a function
-took, the longest first: its `body` as a system of steps, which grows with its exits and with the large values that it
-owns at each; its goals found by `search` and those answered by `hand`; and `other`. Where FUNCTIONs are named, goals
-come one by one. What each part took in all comes last, and what all else did.
+over_kept.py --parts CRATE [FUNCTION..]: checks all of it so, or these functions as --alone does, and prints how many
+processor seconds each part of a function took, the longest first: its `body` as a system of steps, which grows with its
+exits and with the large values that it owns at each; its goals found by `search` and those answered by `hand`; and
+`other`. Where FUNCTIONs are named, goals come one by one. What each part took in all comes last, and what all else did.
 
 It is for whoever writes proofs, and is no proof of a crate: a library that was proved of another text than this
 checkout has is taken too. The first form prints all but what is proved, and ends with the prover's status. It reads
 what the kit keeps (13f) as it is laid out there."""
 import collections
+import contextlib
 import json
 import os
 import re
@@ -79,6 +80,11 @@ def words(crates, crate):
     return [*found, "--links", crate + "=", "--jobs", "1"]
 
 
+def only(functions):
+    """The prover's words by which it checks these functions, and what they call."""
+    return [word for it in functions for word in ("--only", it)]
+
+
 def judged(all_words, crate, folder, places):
     """Checks a crate with a wrong body in it: the functions that it changes, or all where it is in none."""
     if places:
@@ -94,9 +100,7 @@ def edits_tried(crates, crate, names):
     chosen = [it for it in edits if it.name in names] if names else wrong_bodies.edits_in(crate, own)
     well = len(chosen) == len(names) or not names
     for edit in chosen:
-        with tempfile.TemporaryDirectory() as room:
-            folder = os.path.join(room, crate)
-            shutil.copytree("crates/" + crate, folder, ignore=shutil.ignore_patterns("out"))
+        with copied(crate) as folder:
             places = edit.functions(folder)
             said = (wrong_bodies.BAD, "")
             if edit.apply(folder):
@@ -106,11 +110,18 @@ def edits_tried(crates, crate, names):
     return 0 if well else 1
 
 
-def alone(all_words, crate, paths):
-    """Checks some functions of a crate by the contracts of those that they call."""
+@contextlib.contextmanager
+def copied(crate):
+    """A copy of a crate's folder, while it lasts."""
     with tempfile.TemporaryDirectory() as room:
         folder = os.path.join(room, crate)
         shutil.copytree("crates/" + crate, folder, ignore=shutil.ignore_patterns("out"))
+        yield folder
+
+
+def alone(all_words, crate, paths):
+    """Checks some functions of a crate by the contracts of those that they call."""
+    with copied(crate) as folder:
         printed = wrong_bodies.check_only(all_words, crate, folder, paths).stdout
     proved = 0
     for line in printed.splitlines():
@@ -130,10 +141,10 @@ def spent(process):
     return (int(fields[11]) + int(fields[12])) / os.sysconf("SC_CLK_TCK")
 
 
-def timed(crates, crate, only):
+def timed(crates, crate, functions):
     """Checks a crate, or some functions of it, and prints what each took. A line comes as each proof ends."""
     took, before = [], 0.0
-    with subprocess.Popen([*words(crates, crate), *only, "--progress"], cwd="crates/" + crate, stdout=subprocess.PIPE,
+    with subprocess.Popen([*words(crates, crate), *functions, "--progress"], cwd="crates/" + crate, stdout=subprocess.PIPE,
                           stderr=subprocess.STDOUT, text=True) as ran:
         try:
             for line in ran.stdout:
@@ -174,13 +185,18 @@ def part_of(crate, line):
     return function.replace(".", "::"), PARTS.get(part, "other"), goal
 
 
-def parted(crates, crate, only):
-    """Checks a crate, or some functions of it, and prints what each part of a function took. The prover says which part
-    it is at as it begins it, and which goal where it may keep goals; none are kept here."""
+def parted(crates, crate, paths):
+    """Checks a crate, or some functions of it by the contracts of those that they call, and prints what each part of a
+    function took. The prover says which part it is at as it begins it, and which goal where it may keep goals; none are
+    kept here."""
     took, besides, before, at = collections.Counter(), 0.0, 0.0, None
-    with tempfile.TemporaryDirectory() as folder:
-        keeps = ["--incremental", folder] if only else []
-        with subprocess.Popen([*words(crates, crate), *only, *keeps], cwd="crates/" + crate, stdout=subprocess.PIPE,
+    with contextlib.ExitStack() as places:
+        folder, keeps = "crates/" + crate, []
+        if paths:
+            folder = places.enter_context(copied(crate))
+            places.enter_context(wrong_bodies.taken_by_contract(crate, folder, paths))
+            keeps = ["--allow-holes", *only(paths), "--incremental", places.enter_context(tempfile.TemporaryDirectory())]
+        with subprocess.Popen([*words(crates, crate), *keeps], cwd=folder, stdout=subprocess.PIPE,
                               stderr=subprocess.STDOUT, text=True, env={**os.environ, "ANTT_CACHE_DEBUG": "1"}) as ran:
             for line in ran.stdout:
                 if line.startswith("antt: cache: "):
@@ -190,7 +206,7 @@ def parted(crates, crate, only):
                     else:
                         besides += now - before
                     before, at = now, part_of(crate, line)
-                elif not QUIET.match(line):
+                elif not paths and not QUIET.match(line):
                     print(line, end="")
     for (function, part, goal), seconds in took.most_common(60):
         if seconds >= LEAST:
@@ -217,11 +233,13 @@ def main():
         return alone(words(crates, crate), crate, rest)
     if form == "--edits":
         return edits_tried(crates, crate, rest)
-    only = [word for it in rest if not it.startswith("-") for word in ("--only", it)]
-    if form in ("--times", "--parts"):
-        return (timed if form == "--times" else parted)(crates, crate, only)
+    if form == "--parts":
+        return parted(crates, crate, rest)
+    functions = only(it for it in rest if not it.startswith("-"))
+    if form == "--times":
+        return timed(crates, crate, functions)
     flags = [it for it in rest if it.startswith("-")]
-    ran = subprocess.run([*words(crates, crate), *only, *flags], cwd="crates/" + crate, stdout=subprocess.PIPE,
+    ran = subprocess.run([*words(crates, crate), *functions, *flags], cwd="crates/" + crate, stdout=subprocess.PIPE,
                          stderr=subprocess.STDOUT, text=True)
     for line in ran.stdout.split("\n"):
         if not QUIET.match(line):

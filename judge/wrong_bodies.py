@@ -2,8 +2,8 @@
 """wrong_bodies.py [CRATE..]: tries the wrong bodies of crates/CRATE/edits/, of all crates where none is named, in
 copies: the prover must refuse each. `./verify --edits` calls it.
 
-wrong_bodies.py --gate CRATE [SHARE OF]: the same of those in crates/CRATE/edits/gate/, or one share of so many, counted
-from 0, so that shares can be tried side by side; the gate calls it.
+wrong_bodies.py --gate CRATE [SHARE]: the same of those in crates/CRATE/edits/gate/, or of one share of them, counted from
+0: those that one check tries. So shares can be tried side by side; the gate calls it.
 
 Many are tried in one check of their crate, at most one of each function: what is proved of a function rests on the
 contracts of those that it calls, and not on their bodies, so each is judged by its own function's verdict. One whose
@@ -27,6 +27,9 @@ import sys
 import tempfile
 
 REFUSED, PROVED, UNJUDGED, BAD = "refused", "NOT REFUSED", "unjudged", "BAD EDIT"
+
+# How many of a crate's that the gate tries are tried by one check, at most: each check reads the libraries.
+TOGETHER = 8
 
 # Why a body is refused that a proof alone refuses.
 ONLY_GONE = "only where its proof names what is gone"
@@ -171,6 +174,15 @@ def sets_of(edits, folder):
         else:
             sets.append((set(places), [(edit, places)]))
     return [members for _, members in sets]
+
+
+def shares_of(crate):
+    """Divides the wrong bodies of a crate that the gate tries: each share is tried by one check."""
+    folder, shares = os.path.join("crates", crate), []
+    for members in sets_of(edits_in(crate, os.path.join(folder, "edits", "gate")), folder):
+        checks = -(-len(members) // TOGETHER)
+        shares += [[edit for edit, _ in members[at::checks]] for at in range(checks)]
+    return shares
 
 
 @contextlib.contextmanager
@@ -426,7 +438,7 @@ def tried_in_copy(crate):
     """Tries all wrong bodies of a crate but those of the gate, in a copy of its own."""
     crates = Crates()
     if crates.are_proved_below(crate):
-        return tried_over_proved(crates, crate, "edits")
+        return tried_over_proved(crates, crate, edits_in(crate, os.path.join("crates", crate, "edits")))
     with tempfile.TemporaryDirectory() as place:
         root = os.path.join(place, "flowvault")
         shutil.copytree(".", root, ignore=without_work(crate), copy_function=copied)
@@ -434,9 +446,8 @@ def tried_in_copy(crate):
         return crate_tried(crate, folder, edits_in(crate, os.path.join(folder, "edits")), check_kept)
 
 
-def tried_over_proved(crates, crate, edits, share=0, of=1):
-    """Tries the wrong bodies of a crate that are in this folder of it, one share of so many, over the libraries that
-    `rt ci` left."""
+def tried_over_proved(crates, crate, edits):
+    """Tries wrong bodies of a crate over the libraries that `rt ci` left."""
     source = os.path.join("crates", crate)
     with tempfile.TemporaryDirectory() as place:
         folder, work = os.path.join(place, crate), os.path.join(place, "work")
@@ -444,17 +455,17 @@ def tried_over_proved(crates, crate, edits, share=0, of=1):
         for part in ("src", "specs", "proofs"):
             if os.path.isdir(os.path.join(source, part)):
                 shutil.copytree(os.path.join(source, part), os.path.join(folder, part))
-        edits = edits_in(crate, os.path.join(source, edits))[share::of]
         return crate_tried(crate, folder, edits, OverProved(crates, crate, work))
 
 
-def tried_in_gate(crate, share=0, of=1):
-    """Tries the wrong bodies of a crate that the gate has, or a share of them: the status."""
+def tried_in_gate(crate, *shares):
+    """Tries the wrong bodies of a crate that the gate has, or shares of them: the status."""
     crates = Crates()
     if not crates.are_proved_below(crate):
         print("%s: `rt ci` hasn't left the libraries below, as they are now: ./verify in a clean clone does" % crate)
         return 1
-    counts = tried_over_proved(crates, crate, os.path.join("edits", "gate"), share, of)
+    edits = shares_of(crate)
+    counts = tried_over_proved(crates, crate, sum((edits[it] for it in shares or range(len(edits))), []))
     say_counts(*counts)
     return int(sum(counts[1:]) > 0)
 
@@ -464,7 +475,7 @@ def say_counts(refused, by_name, others):
 
 
 def main(names, lanes=1):
-    if names[:1] == ["--gate"] and len(names) in (2, 4):
+    if names[:1] == ["--gate"] and len(names) in (2, 3):
         return tried_in_gate(names[1], *map(int, names[2:]))
     all_names = sorted(it for it in os.listdir("crates") if os.path.isdir(os.path.join("crates", it, "edits")))
     for name in names:
