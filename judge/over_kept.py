@@ -3,9 +3,10 @@
 libraries of the crates below that `rt ci` proved last on this machine, in whichever checkout: seconds, where `rt check`
 makes libraries of its own first, for a crate of the program some ten minutes. FLAGs are the prover's, as --allow-holes.
 
-over_kept.py --alone CRATE FUNCTION..: checks these functions so, and none that they call, whose contracts are taken:
+over_kept.py --alone CRATE [FUNCTION..]: checks these functions so, and none that they call, whose contracts are taken:
 the bodies and proofs of these take most of the first form's time. It prints what isn't proved, and ends with 'N of M
-proved, by the contracts of what they call' and status 0 where that is all.
+proved, by the contracts of what they call' and status 0 where that is all. Where none is named it checks those that the
+wrong bodies of the gate change, as they are: the check that refuses these must prove them.
 
 over_kept.py --edits CRATE [NAME..]: tries wrong bodies of crates/CRATE/edits/ so, or of its gate/, one by one, all of
 edits/ where none is named: prints what the prover says of each, as judge/wrong_bodies.py does, and ends with status 0
@@ -120,18 +121,27 @@ def copied(crate):
 
 
 def alone(all_words, crate, paths):
-    """Checks some functions of a crate by the contracts of those that they call."""
+    """Checks some functions of a crate, or those of some modules, by the contracts of those that they call."""
     with copied(crate) as folder:
         printed = wrong_bodies.check_only(all_words, crate, folder, paths).stdout
-    proved = 0
+    said = []
     for line in printed.splitlines():
         own = re.match(r"fn (\S+): (.*)", line)
-        if own and wrong_bodies.HOLDS.match(own[2]):
-            proved += own[1].endswith(tuple("::" + path for path in paths))
-        elif own or ": error" in line or "is not proved that" in line:
+        if own:
+            said.append(("::%s::" % own[1], bool(wrong_bodies.HOLDS.match(own[2]))))
+        if own and not said[-1][1] or ": error" in line or "is not proved that" in line:
             print(line)
+    found = [[holds for name, holds in said if "::%s::" % path in name] for path in paths]
+    proved = sum(bool(it) and all(it) for it in found)
     print("%d of %d proved, by the contracts of what they call" % (proved, len(paths)))
     return int(proved < len(paths))
+
+
+def changed(crate):
+    """The functions of a crate that the wrong bodies of the gate change."""
+    folder = "crates/" + crate
+    places = (edit.functions(folder) for edit in wrong_bodies.edits_in(crate, folder + "/edits/gate"))
+    return sorted({wrong_bodies.path_of(folder, *it) for its_own in places for it in its_own})
 
 
 def spent(process):
@@ -229,8 +239,8 @@ def main():
     if lacking:
         print("rt ci has kept nothing of: %s" % " ".join(lacking))
         return 1
-    if form == "--alone" and rest:
-        return alone(words(crates, crate), crate, rest)
+    if form == "--alone":
+        return alone(words(crates, crate), crate, rest or changed(crate))
     if form == "--edits":
         return edits_tried(crates, crate, rest)
     if form == "--parts":

@@ -2,16 +2,15 @@
 """wrong_bodies.py [CRATE..]: tries the wrong bodies of crates/CRATE/edits/, of all crates where none is named, in
 copies: the prover must refuse each. `./verify --edits` calls it.
 
-wrong_bodies.py --gate CRATE [SHARE]: the same of those in crates/CRATE/edits/gate/, or of one share of them, counted from
-0: those that one check tries. So shares can be tried side by side; the gate calls it.
+wrong_bodies.py --gate CRATE: the same of those in crates/CRATE/edits/gate/; the gate calls it.
 
 Many are tried in one check of their crate, at most one of each function: what is proved of a function rests on the
 contracts of those that it calls, and not on their bodies, so each is judged by its own function's verdict. One whose
 function couldn't be judged beside the others is tried again, and one that is in no function alone. Where `./verify` has
 proved the crates below in this clone as they are now, the functions that are changed are checked over the libraries that
-it left; the other functions of the crate have a body that does nothing, and a hole in place of a proof, which the prover
-takes by the contract. Else, but not with `--gate`, libraries and work that earlier checks kept are used, or made first,
-which takes as long as proving the crates.
+it left, and checks of one crate keep work for each other; the other functions of the crate have a body that does
+nothing, and a hole in place of a proof, which the prover takes by the contract. Else, but not with `--gate`, libraries
+and work that earlier checks kept are used, or made first, which takes as long as proving the crates.
 Prints a line for each, and ends with 'N refused, K only where a proof names what is gone, M not refused': the K aren't
 among the N, since a proof that names what a body took away says nothing of the contract; status 0 only where M is 0,
 and with `--gate` K too."""
@@ -27,9 +26,6 @@ import sys
 import tempfile
 
 REFUSED, PROVED, UNJUDGED, BAD = "refused", "NOT REFUSED", "unjudged", "BAD EDIT"
-
-# How many of a crate's that the gate tries are tried by one check, at most: each check reads the libraries.
-TOGETHER = 8
 
 # Why a body is refused that a proof alone refuses.
 ONLY_GONE = "only where its proof names what is gone"
@@ -174,15 +170,6 @@ def sets_of(edits, folder):
         else:
             sets.append((set(places), [(edit, places)]))
     return [members for _, members in sets]
-
-
-def shares_of(crate):
-    """Divides the wrong bodies of a crate that the gate tries: each share is tried by one check."""
-    folder, shares = os.path.join("crates", crate), []
-    for members in sets_of(edits_in(crate, os.path.join(folder, "edits", "gate")), folder):
-        checks = -(-len(members) // TOGETHER)
-        shares += [[edit for edit, _ in members[at::checks]] for at in range(checks)]
-    return shares
 
 
 @contextlib.contextmanager
@@ -458,14 +445,13 @@ def tried_over_proved(crates, crate, edits):
         return crate_tried(crate, folder, edits, OverProved(crates, crate, work))
 
 
-def tried_in_gate(crate, *shares):
-    """Tries the wrong bodies of a crate that the gate has, or shares of them: the status."""
+def tried_in_gate(crate):
+    """Tries the wrong bodies of a crate that the gate has: the status."""
     crates = Crates()
     if not crates.are_proved_below(crate):
         print("%s: `rt ci` hasn't left the libraries below, as they are now: ./verify in a clean clone does" % crate)
         return 1
-    edits = shares_of(crate)
-    counts = tried_over_proved(crates, crate, sum((edits[it] for it in shares or range(len(edits))), []))
+    counts = tried_over_proved(crates, crate, edits_in(crate, os.path.join("crates", crate, "edits", "gate")))
     say_counts(*counts)
     return int(sum(counts[1:]) > 0)
 
@@ -475,8 +461,8 @@ def say_counts(refused, by_name, others):
 
 
 def main(names, lanes=1):
-    if names[:1] == ["--gate"] and len(names) in (2, 3):
-        return tried_in_gate(names[1], *map(int, names[2:]))
+    if names[:1] == ["--gate"] and len(names) == 2:
+        return tried_in_gate(names[1])
     all_names = sorted(it for it in os.listdir("crates") if os.path.isdir(os.path.join("crates", it, "edits")))
     for name in names:
         if name not in all_names:
