@@ -30,7 +30,7 @@ CASES = "cases/messages.txt"
 SECONDS = 2
 
 # A program in the place of the built ones: it prints the version that it was built with.
-STAND_IN = "#!/bin/sh\necho 'flowvault 1.9.6 (sources %s)'\n"
+STAND_IN = "#!/bin/sh\necho 'flowvault 1.9.7 (sources %s)'\n"
 
 # A script in the place of the kit's rt: it notes how it was called, and in what, begins two crates and proves one. Then
 # it does what the file `does` beside it has, while a process of its own runs.

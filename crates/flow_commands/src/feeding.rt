@@ -186,10 +186,16 @@ where
     let alloc = rt.alloc();
     let span = archive.limit();
     let rolled = rolled_messages(&archive);
-    let Ok((shared, places)) = start::<D, J, H>(alloc, archive, opened, 1) else {
-        return Err(ArchiveRefusal::OutOfMemory);
+    let shared = match start::<D, J, H>(alloc, archive, opened, 1) {
+        Ok((shared, places)) => {
+            drop(places);
+            shared
+        }
+        Err(archive) => {
+            drop(archive);
+            return Err(ArchiveRefusal::OutOfMemory);
+        }
     };
-    drop(places);
     let faults = &mut Faults::new();
     let (feds, refused) = feed_beside::<H, D, J, Brand, S, R, P>(
         rt, &shared, span, plan, end_on, paths, input, progress, feds, faults,
@@ -233,22 +239,20 @@ where
     ensures most { IfOk result (λ status. status ≤ 5) }
     ensures other { IfOk result (λ status. status ≢ 2) }
 {
+    let feds = Vec::from_elem(rt.alloc(), UNFED, paths.len())?;
     match Archive::open(rt.alloc(), disk) {
-        Ok(archive) => {
-            let feds = Vec::from_elem(rt.alloc(), UNFED, paths.len())?;
-            feed_files::<H, D, Brand, S, R, W, P>(
-                rt,
-                archive,
-                Opened::new(),
-                plan,
-                EndPath { path: end_on },
-                paths,
-                feds,
-                input,
-                output,
-                progress,
-            )
-        }
+        Ok(archive) => feed_files::<H, D, Brand, S, R, W, P>(
+            rt,
+            archive,
+            Opened::new(),
+            plan,
+            EndPath { path: end_on },
+            paths,
+            feds,
+            input,
+            output,
+            progress,
+        ),
         Err(refused) => Err(ArchiveRefusal::from(refused.error)),
     }
 }

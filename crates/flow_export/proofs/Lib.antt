@@ -15,3 +15,6 @@ mod ChosenText
 mod SpanWritten
 mod SumsMet
 mod Unrolled
+mod AskedFor
+mod ByTime
+mod Cut

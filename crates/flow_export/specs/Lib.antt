@@ -1,2 +1,4 @@
 pub mod Export
 pub mod Span
+pub mod Asked
+pub mod ByTime

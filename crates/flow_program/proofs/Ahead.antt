@@ -11,10 +11,10 @@ use Rattle.std.proofs.lemmas.Result.{IfOk-at_ok}
 use Rattle.flow_commands.specs.declared.archive_refusal.ArchiveRefusal.{ArchiveRefusal}
 use Rattle.flow_disk.specs.declared.disk.Disk.{Ghosts}
 use Rattle.flow_folder.specs.declared.system.FolderError.{FolderError}
-use Rattle.flow_several_folders.proofs.Opened.{no_path, paths_of}
-use Rattle.flow_several_folders.specs.Folders.{Path}
-use Rattle.flow_side_by_side.specs.Turns.{Awaits, IsNext}
-use Rattle.flow_side_by_side.proofs.Taking.{of_none}
+use Rattle.flow_several.proofs.Opened.{no_path, paths_of}
+use Rattle.flow_several.specs.Folders.{Path}
+use Rattle.flow_several.specs.SideBySide.{Awaits, IsNext}
+use Rattle.flow_several.proofs.Taking.{of_none}
 use Rattle.flow_program.specs.Checks.{IsOutcome, Outcome}
 use Rattle.flow_program.specs.SideBySide.{outcome_of, AreAhead, IsAnswerOf, IsOpened}
 

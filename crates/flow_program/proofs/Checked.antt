@@ -26,8 +26,8 @@ use Rattle.flow_report.specs.Refusals.{status_of}
 use Rattle.flow_report.specs.Writing.{AppendsFront}
 use Rattle.flow_several.proofs.EachLines.{front_then}
 use Rattle.flow_several.proofs.EachFlows.{zip_count}
-use Rattle.flow_several_folders.proofs.Opened.{no_path, opened_more, paths_of}
-use Rattle.flow_several_folders.specs.Folders.{Path}
+use Rattle.flow_several.proofs.Opened.{no_path, opened_more, paths_of}
+use Rattle.flow_several.specs.Folders.{Path}
 use Rattle.flow_program.specs.Checks.{greatest_from, number_before, numbered_lines, status_in, text_of, texts_of}
 use Rattle.flow_program.specs.Checks.{without_room, AreChecked, AreCheckLines, AreReported, ChecksEnd}
 use Rattle.flow_program.specs.Checks.{IsNotChecked, IsOutcome, IsReported}

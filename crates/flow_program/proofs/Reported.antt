@@ -9,10 +9,10 @@ use Rattle.flow_commands.specs.declared.archive_refusal.ArchiveRefusal.{ArchiveR
 use Rattle.flow_folder.specs.declared.system.FolderError.{FolderError}
 use Rattle.flow_report.specs.declared.format.Format.{Format}
 use Rattle.flow_several.specs.declared.refusal.SeveralRefusal.{SeveralRefusal}
-use Rattle.flow_several_folders.specs.declared.asking.Question.{Question}
-use Rattle.flow_several_folders.specs.declared.asking.Wanted.{Wanted}
-use Rattle.flow_several_folders.specs.declared.refusal.FoldersRefusal.{FoldersRefusal}
-use Rattle.flow_several_folders.specs.declared.refusal.FoldersRefusal.TheVariants.{Folder, Several}
+use Rattle.flow_several.specs.declared.asking.Question.{Question}
+use Rattle.flow_several.specs.declared.asking.Wanted.{Wanted}
+use Rattle.flow_several.specs.declared.folders_refusal.FoldersRefusal.{FoldersRefusal}
+use Rattle.flow_several.specs.declared.folders_refusal.FoldersRefusal.TheVariants.{Folder, Several}
 use Rattle.flow_program.specs.declared.arguments.MomentSpan.{MomentSpan}
 use Rattle.flow_program.specs.Arguments.{depends_on_now}
 use Rattle.flow_program.specs.Several.{no_clock, question_at, refused_text, text_reported}

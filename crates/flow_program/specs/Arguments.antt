@@ -12,7 +12,7 @@ use Rattle.flow_program.specs.declared.request.Request.TheVariants.{Create, Chec
 use Rattle.flow_program.specs.declared.request.Request.TheVariants.{Totals, TotalsOfSeveral, Flows, FlowsOfSeveral, Records}
 use Rattle.flow_program.specs.declared.request.Request.TheVariants.{Feed, Shell, Roll, Merge, Explain}
 use Rattle.flow_program.specs.declared.request.Request.TheVariants.{Export, ExportByTime, Templates}
-use Rattle.flow_export_folder.specs.declared.span.MessageSpan.{MessageSpan}
+use Rattle.flow_export.specs.declared.span.MessageSpan.{MessageSpan}
 use Rattle.flow_refusals.specs.Table.{is_refusal}
 use Rattle.flow_program.specs.declared.arguments.MomentSpan.{MomentSpan}
 use Rattle.flow_moments.specs.declared.moment.Moment.{Moment}

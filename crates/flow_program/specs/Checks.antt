@@ -23,7 +23,7 @@ use Rattle.flow_report.specs.declared.refusal.Refusal.TheVariants as refusal
 use Rattle.flow_report.specs.Printed.{printed}
 use Rattle.flow_report.specs.Refusals.{status_of}
 use Rattle.flow_report.specs.Writing.{AppendsFront}
-use Rattle.flow_several_folders.specs.Folders.{Path}
+use Rattle.flow_several.specs.Folders.{Path}
 use Rattle.flow_snapshot.specs.Totals.{SumsFit}
 use Rattle.flow_program.specs.Printed.{told_lines}
 use Rattle.flow_program.specs.Several.{refused_text}

@@ -9,12 +9,12 @@ use Rattle.flow_disk.specs.declared.disk.Disk.{Ghosts}
 use Rattle.flow_export.specs.declared.starting.TimeSpan.{TimeSpan}
 use Rattle.flow_export.specs.Export.{AreTemplates, Writes}
 use Rattle.flow_export.specs.Span.{IsSomeSpanExport}
-use Rattle.flow_export_folder.specs.declared.refusal.ArchiveExportRefusal.{ArchiveExportRefusal}
-use Rattle.flow_export_folder.specs.declared.refusal.ArchiveExportRefusal.TheVariants.{Folder, Opening, Query}
-use Rattle.flow_export_folder.specs.declared.refusal.ArchiveExportRefusal.TheVariants.{Rolled, Write}
-use Rattle.flow_export_folder.specs.declared.span.MessageSpan.{MessageSpan}
-use Rattle.flow_export_folder.specs.Asked.{ExportsIn, IsExportOfSome, TemplatesIn, WritesOrNot, WritesUpTo}
-use Rattle.flow_export_folder.specs.ByTime.{ExportsByTimeIn, WritesByTime}
+use Rattle.flow_export.specs.declared.archive_refusal.ArchiveExportRefusal.{ArchiveExportRefusal}
+use Rattle.flow_export.specs.declared.archive_refusal.ArchiveExportRefusal.TheVariants.{Folder, Opening, Query}
+use Rattle.flow_export.specs.declared.archive_refusal.ArchiveExportRefusal.TheVariants.{Rolled, Write}
+use Rattle.flow_export.specs.declared.span.MessageSpan.{MessageSpan}
+use Rattle.flow_export.specs.Asked.{ExportsIn, IsExportOfSome, TemplatesIn, WritesOrNot, WritesUpTo}
+use Rattle.flow_export.specs.ByTime.{ExportsByTimeIn, WritesByTime}
 use Rattle.flow_refusals.specs.declared.code.RefusalCode.TheVariants as code
 use Rattle.flow_refusals.specs.Table.{code_text, row_of}
 use Rattle.flow_report.specs.Writing.{AppendsFront}

@@ -34,7 +34,7 @@ use Rattle.flow_commands.specs.ArchiveFiles.{AreListings}
 use Rattle.flow_commands.specs.Asking.{AreFlowsIn, AreRowsIn, Writes, WritesOrNot, WritesUpTo}
 use Rattle.flow_shell.specs.Asked.{MayKeep}
 use Rattle.flow_shell.specs.Endings.{ShellsIn}
-use Rattle.flow_kept_records.specs.Listing.{AreRecordsIn}
+use Rattle.flow_records.specs.Listing.{AreRecordsIn}
 use Rattle.flow_columns.specs.declared.names.LineFormat.{LineFormat}
 use Rattle.flow_report.specs.declared.format.Format.{Format}
 use Rattle.flow_program.specs.Arguments.{has_input, span_at}
@@ -45,7 +45,7 @@ use Rattle.flow_program.specs.Exporting.{ByTimeEnd, MessagesEnd, TemplatesEnd}
 use Rattle.flow_program.specs.Inspecting.{InspectEnds}
 use Rattle.flow_program.specs.Requested.{IsLineError}
 use Rattle.flow_program.specs.Several.{totals_wanted, SeveralEnd}
-use Rattle.flow_several_folders.specs.declared.asking.Wanted.TheVariants.{FlowsOfEach}
+use Rattle.flow_several.specs.declared.asking.Wanted.TheVariants.{FlowsOfEach}
 use Rattle.flow_report.specs.Refusals.{status_of}
 use Rattle.flow_program.specs.Printed.{kind_text, told_lines, words_text}
 use Rattle.flow_report.specs.Printed.{printed, line_of}

@@ -15,13 +15,13 @@ use Rattle.flow_refusals.specs.Table.{code_text}
 use Rattle.flow_report.specs.declared.format.Format.{Format}
 use Rattle.flow_report.specs.Writing.{AppendsFront}
 use Rattle.flow_several.specs.Refusals.{several_status, several_text}
-use Rattle.flow_several_folders.specs.declared.asking.Question.{Question}
-use Rattle.flow_several_folders.specs.declared.asking.Wanted.{Wanted}
-use Rattle.flow_several_folders.specs.declared.asking.Wanted.TheVariants.{Totals, TotalsOfEach}
-use Rattle.flow_several_folders.specs.declared.refusal.FoldersRefusal.{FoldersRefusal}
-use Rattle.flow_several_folders.specs.declared.refusal.FoldersRefusal.TheVariants.{Folder, Several}
-use Rattle.flow_several_folders.specs.Folders.{AnswersFolders, AreFoldersRefused, KeepsOrRows, Path}
-use Rattle.flow_several_folders.specs.Questions.{AnswersRows}
+use Rattle.flow_several.specs.declared.asking.Question.{Question}
+use Rattle.flow_several.specs.declared.asking.Wanted.{Wanted}
+use Rattle.flow_several.specs.declared.asking.Wanted.TheVariants.{Totals, TotalsOfEach}
+use Rattle.flow_several.specs.declared.folders_refusal.FoldersRefusal.{FoldersRefusal}
+use Rattle.flow_several.specs.declared.folders_refusal.FoldersRefusal.TheVariants.{Folder, Several}
+use Rattle.flow_several.specs.Folders.{AnswersFolders, AreFoldersRefused, KeepsOrRows, Path}
+use Rattle.flow_several.specs.Questions.{AnswersRows}
 use Rattle.flow_program.specs.Arguments.{depends_on_now, span_at}
 use Rattle.flow_program.specs.declared.arguments.MomentSpan.{MomentSpan}
 use Rattle.flow_program.specs.Printed.{told_lines}

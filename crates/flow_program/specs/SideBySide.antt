@@ -8,8 +8,8 @@ use Rattle.flow_commands.specs.Archives.{of_folder}
 use Rattle.flow_disk.specs.declared.disk.Disk.{Ghosts}
 use Rattle.flow_folder.specs.declared.system.FolderError.{FolderError}
 use Rattle.flow_manifest.specs.Slots.{reads_of}
-use Rattle.flow_several_folders.specs.Folders.{Path}
-use Rattle.flow_side_by_side.specs.Turns.{Awaits}
+use Rattle.flow_several.specs.Folders.{Path}
+use Rattle.flow_several.specs.SideBySide.{Awaits}
 use Rattle.flow_program.specs.Checks.{AreChecked, AreCheckLines, HasOpeningCause, IsNotChecked, Outcome}
 
 -- ---- one archive

@@ -10,7 +10,7 @@ use flow_commands::{ArchiveRefusal, check, check_files};
 use flow_disk::{Disk, Faults};
 use flow_folder::FolderError;
 use flow_manifest::OpenError;
-use flow_side_by_side::Asking;
+use flow_several::Asking;
 use std::alloc::Global;
 
 /// A refusal of what writes a text into memory: there is no more where that fails.

@@ -13,7 +13,7 @@ use crate::arguments::{MomentSpan, folder_in, is_by_moments, is_given, worded_sp
 use crate::grammar::{folder_argument, option, titled, with_queries, with_three};
 use crate::request::Request;
 use clap::{ArgMatches, Command};
-use flow_export_folder::MessageSpan;
+use flow_export::MessageSpan;
 use flow_manifest::MOST_MESSAGES;
 use flow_moments::Moment;
 use flow_report::number_between;

@@ -11,9 +11,8 @@ use crate::several::report_text;
 use crate::telling::{DONE, tell_of_archive};
 use flow_commands::{ArchiveRefusal, StartSpan};
 use flow_disk::Disk;
-use flow_export::TimeSpan;
-use flow_export_folder::{
-    ArchiveExportRefusal, MessageSpan, export_by_time_in, export_in, templates_in,
+use flow_export::{
+    ArchiveExportRefusal, MessageSpan, TimeSpan, export_by_time_in, export_in, templates_in,
 };
 use flow_folder::{FirstFault, Lockable};
 use flow_folder_view::FolderView;

@@ -28,7 +28,7 @@ use clap::error::ErrorKind;
 use clap::{ArgMatches, Error};
 use flow_columns::{FieldNames, LineFormat, first_unknown};
 use flow_commands::{FeedPlan, NewArchive, Workers};
-use flow_export_folder::MessageSpan;
+use flow_export::MessageSpan;
 use flow_report::{Format, Width};
 use std::alloc::{AllocError, Global};
 use std::convert::AsStr;

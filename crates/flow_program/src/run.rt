@@ -23,7 +23,7 @@ use flow_folder_view::FolderView;
 use flow_inspect::inspect;
 use flow_manifest::JobKind;
 use flow_report::{Format, Width, dump, measure};
-use flow_several_folders::Wanted;
+use flow_several::Wanted;
 use std::alloc::{AllocGlobal, Global};
 use std::convert::AsStr;
 use std::fs::Files;

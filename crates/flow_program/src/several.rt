@@ -16,8 +16,9 @@ use flow_commands::{ArchiveRefusal, StartSpan};
 use flow_disk::{Disk, Faults};
 use flow_folder::{FirstFault, Lockable};
 use flow_report::Format;
-use flow_several::SeveralRefusal;
-use flow_several_folders::{FolderViews, FoldersRefusal, Opener, Question, Wanted, ask_folders};
+use flow_several::{
+    FolderViews, FoldersRefusal, Opener, Question, SeveralRefusal, Wanted, ask_folders,
+};
 use std::alloc::{AllocError, AllocGlobal, Global};
 use std::fs::Files;
 use std::io::Write;

@@ -2,7 +2,7 @@
 
 ghost use Rattle.std.specs.Prelude.{◌≡◌, ◌<◌, ◌≤◌, Bool, List, [], ◌∷◌, drop, length, map, take};
 ghost use Rattle.std.specs.List.{All, AllZip};
-ghost use Rattle.flow_several_folders.specs.Folders.{Path};
+ghost use Rattle.flow_several.specs.Folders.{Path};
 ghost use Rattle.flow_program.specs.Checks.{IsOutcome};
 ghost use Rattle.flow_program.specs.SideBySide.{outcome_of, AreAhead, IsOpened, MayBeChecked};
 
@@ -10,8 +10,7 @@ use crate::checking::Checking;
 use flow_commands::ArchiveRefusal;
 use flow_disk::Disk;
 use flow_folder::FolderError;
-use flow_several_folders::Opener;
-use flow_side_by_side::{Asking, InTurn};
+use flow_several::{Asking, InTurn, Opener};
 use std::alloc::Global;
 use std::thread::Threads;
 

@@ -13,11 +13,11 @@ use Rattle.flow_commands.specs.Asking.{Always, IsBlameless, IsReadAs, IsUnopened
 use Rattle.flow_commands.specs.Asking.{TellsUpTo, WritesUpTo}
 use Rattle.flow_commands.specs.Plans.{Span}
 use Rattle.flow_disk.specs.Cause.{HasCause}
-use Rattle.flow_kept_records.specs.declared.refusal.RecordsRefusal.{RecordsRefusal}
-use Rattle.flow_kept_records.specs.declared.refusal.RecordsRefusal.TheVariants.{Query, Text}
-use Rattle.flow_kept_records.specs.Listing.{records_lines, AreRecordsIn, WritesSomeRecords}
-use Rattle.flow_kept_records.specs.Listing.{IsBlameless as IsBlamelessBelow}
-use Rattle.flow_kept_records.specs.Records.{is_chosen, records_text, AreChosen}
+use Rattle.flow_records.specs.declared.refusal.RecordsRefusal.{RecordsRefusal}
+use Rattle.flow_records.specs.declared.refusal.RecordsRefusal.TheVariants.{Query, Text}
+use Rattle.flow_records.specs.Listing.{records_lines, AreRecordsIn, WritesSomeRecords}
+use Rattle.flow_records.specs.Listing.{IsBlameless as IsBlamelessBelow}
+use Rattle.flow_records.specs.Records.{is_chosen, records_text, AreChosen}
 use Rattle.flow_manifest.specs.declared.error.OpenError.{OpenError}
 use Rattle.flow_manifest.specs.declared.error.OpenError.TheVariants as opening
 use Rattle.flow_measure.specs.View.{View}

@@ -1,1 +1,4 @@
 pub mod Refused
+pub mod Records
+pub mod Holding
+pub mod Listing

@@ -1,204 +1,129 @@
-//! The command `records`.
+//! The lines of a snapshot's records.
 
-ghost use Rattle.std.specs.Prelude.{◌≡◌, ◌≢◌, ℕ, List, false, IfErr, IfOk, IsTrue, OnOk};
+ghost use Rattle.std.specs.Prelude.{◌≡◌, ◌≤◌, List, length, slice_get, IfErr, IsTrue, OnErr, OnOk, Some};
 ghost use Rattle.std.specs.Io.KnownBytes.{Appends};
-ghost use Rattle.flow_archive.specs.Beginning.{answer_of, disk_of};
-ghost use Rattle.flow_commands.specs.declared.archive_refusal.ArchiveRefusal.TheVariants as refusal;
-ghost use Rattle.flow_commands.specs.Asking.{Always, IsBlameless, IsWhileAsking, TellsLines, TellsUpTo, Writes};
-ghost use Rattle.flow_commands.specs.Asking.{WritesUpTo};
-ghost use Rattle.flow_commands.specs.Rolling.{done_of};
-ghost use Rattle.flow_commands.specs.Opened.{IsAsked, IsHandedOn, KeepsArchive, KeepsFiles};
 ghost use Rattle.flow_disk.specs.Cause.{HasCause};
-ghost use Rattle.flow_kept_records.specs.Listing.{records_lines, AreRecordsIn};
-ghost use Rattle.flow_manifest.specs.Slots.{reads_of};
+ghost use Rattle.flow_codec.specs.Raw.{Placed};
 ghost use Rattle.flow_measure.specs.View.{View};
-ghost use Rattle.flow_model.specs.Standing.{StandsFor};
 ghost use Rattle.flow_model.specs.Views.{IsViewOf};
-ghost use Rattle.flow_records.specs.Refused.{of_records};
 ghost use Rattle.flow_report.specs.Writing.{AppendsFront};
+ghost use Rattle.flow_snapshot.specs.Found.{kept_by_file, KeptFile};
+ghost use Rattle.flow_records.specs.declared.refusal.RecordsRefusal.TheVariants.{Query};
+ghost use Rattle.flow_records.specs.Listing.{records_lines, IsBlameless, StaysSo, TellsFrontOf, TellsFrontOfSome};
+ghost use Rattle.flow_records.specs.Listing.{TellsOf, TellsOwn, TellsOwnOf, TellsSome, WritesOwnRecords};
+ghost use Rattle.flow_records.specs.Listing.{WritesRecords, WritesSomeRecords};
+ghost use Rattle.flow_records.specs.Records.{records_in_view, HaveOwnRecords};
 
-use flow_archive::{Archive, Refused};
-use flow_columns::LineFormat;
-use flow_commands::{ArchiveRefusal, StartSpan, ended, to_ask};
-use flow_disk::{Disk, Faults, SealedFile};
-use flow_folder::{FirstFault, Lockable};
-use flow_folder_view::FolderView;
-use flow_kept_records::{RecordsRefusal, write_records};
-use flow_manifest::OpenError;
+use crate::active::tell_active;
+use crate::chosen::ChosenRecords;
+use crate::part::tell_segment;
+use crate::refusal::RecordsRefusal;
+use flow_columns::{LineFormat, ListLines};
+use flow_disk::{Faults, SealedFile};
 use flow_refusals::ReadRefusal;
-use flow_snapshot::Snapshot;
-use std::alloc::{AllocGlobal, Global};
-use std::fs::Files;
+use flow_snapshot::{KeptPart, Snapshot};
+use std::alloc::Global;
 use std::io::Write;
-use std::os::unix::fs::FileExt;
 
-/// Why the command ended.
-fn refusal_of(refusal: RecordsRefusal) -> ArchiveRefusal
-    ensures { result ≡ of_records refusal }
+/// Lines on their way to a writer, and the records of the message that is read.
+#[derive(Drop)]
+pub(crate) struct Listing {
+    pub(crate) chosen: ChosenRecords,
+    pub(crate) lines: ListLines,
+}
+
+/// Takes the lines of one file's records, of flows that start within.
+fn tell_file<S: SealedFile, W: Write>(
+    alloc: Global,
+    snapshot: &Snapshot<S>,
+    at: u64,
+    listing: &mut Listing,
+    output: &mut W,
+    faults: &mut Faults<S>,
+) -> Result<(), RecordsRefusal>
+    requires { at ≤ length snapshot.now.shelf.sealed }
+    ensures same { StaysSo listing.old listing.new }
+    ensures cause { HasCause (Query ReadRefusal.Fault) faults.old faults.new result }
+    ensures all { OnOk result (TellsSome listing.old (W.contents output.old) (W.contents output.new) listing.new) }
+    ensures some { OnErr result (TellsFrontOfSome listing.old (W.contents output.old) (W.contents output.new)) }
+    ensures found { IsTrue snapshot.now.honest → (file : KeptFile)
+        → slice_get (kept_by_file snapshot.now.shelf) at ≡ Some file
+        → OnOk result (TellsOwn listing.old (W.contents output.old) (W.contents output.new) listing.new file) }
+    ensures cut { IsTrue snapshot.now.honest → (file : KeptFile)
+        → slice_get (kept_by_file snapshot.now.shelf) at ≡ Some file → (own : List Placed)
+        → HaveOwnRecords listing.old.chosen.from listing.old.chosen.to file own
+        → IfErr result (λ e. IsBlameless e
+        × TellsFrontOf listing.old (W.contents output.old) (W.contents output.new) own) }
 {
-    match refusal {
-        RecordsRefusal::Query(error) => ArchiveRefusal::from(error),
-        RecordsRefusal::Text(error) => ArchiveRefusal::from(error),
+    match snapshot.kept_part(at) {
+        KeptPart::Sealed(part) => tell_segment(alloc, part, listing, output, faults),
+        KeptPart::Active(prefix, messages) => {
+            tell_active(alloc, prefix, messages, listing, output)
+        }
     }
 }
 
-/// Writes the lines of a snapshot's records.
-fn write_asked<S: SealedFile, W: Write>(
+/// Takes the lines of a snapshot's records of flows that start within, those of one file after the other.
+fn tell_files<S: SealedFile, W: Write>(
     alloc: Global,
     snapshot: &Snapshot<S>,
-    span: &StartSpan,
+    listing: &mut Listing,
+    output: &mut W,
+    faults: &mut Faults<S>,
+) -> Result<(), RecordsRefusal>
+    ensures cause { HasCause (Query ReadRefusal.Fault) faults.old faults.new result }
+    ensures all { OnOk result (TellsSome listing.old (W.contents output.old) (W.contents output.new) listing.new) }
+    ensures some { OnErr result (TellsFrontOfSome listing.old (W.contents output.old) (W.contents output.new)) }
+    ensures found { IsTrue snapshot.now.honest → OnOk result (TellsOwnOf listing.old (W.contents output.old)
+        (W.contents output.new) listing.new (kept_by_file snapshot.now.shelf)) }
+    ensures told { IsTrue snapshot.now.honest → (v : View) → IsViewOf snapshot.now.shelf v
+        → OnOk result (TellsOf listing.old (W.contents output.old) (W.contents output.new) listing.new
+        (records_in_view listing.old.chosen.from listing.old.chosen.to v)) }
+    ensures cut { IsTrue snapshot.now.honest → (v : View) → IsViewOf snapshot.now.shelf v
+        → IfErr result (λ e. IsBlameless e
+        × TellsFrontOf listing.old (W.contents output.old) (W.contents output.new)
+        (records_in_view listing.old.chosen.from listing.old.chosen.to v)) }
+{
+    let files = snapshot.kept_files();
+    for at in 0..files {
+        tell_file(alloc, snapshot, at, listing, output, faults)?;
+    }
+    Ok(())
+}
+
+/// Writes the lines of a snapshot's data records whose flows start from `from` on and before `to`, both in seconds
+/// since 1970-01-01 00:00 UTC, in the order in which they were taken in. Each file is read once, a piece at a time,
+/// with nothing but its own prefix, and not at all where it is known that none of its flows start in the span.
+///
+/// Where a file that is read isn't what its archive wrote, it answers `Damaged`, with the file and the place; `Fault`
+/// exactly where a read has raised `faults`; after an `Err` a prefix of the lines is written.
+pub fn write_records<S: SealedFile, W: Write>(
+    alloc: Global,
+    snapshot: &Snapshot<S>,
+    from: u64,
+    to: u64,
     format: &LineFormat<'_>,
     output: &mut W,
     faults: &mut Faults<S>,
-) -> Result<(), ArchiveRefusal>
-    // On every disk: the lines of some records of the span, or a prefix of such lines.
-    ensures written { OnOk result (Writes (AreRecordsIn format.now span.now.from span.now.to) (W.contents output.old)
-        (W.contents output.new)) }
-    ensures some { IfErr result (λ e. IsWhileAsking e × WritesUpTo (AreRecordsIn format.now span.now.from span.now.to) e
-        (W.contents output.old) (W.contents output.new)) }
-    // On honest ones: those of each view of the files, or a prefix of these, and no damage is reported.
+) -> Result<(), RecordsRefusal>
+    ensures cause { HasCause (Query ReadRefusal.Fault) faults.old faults.new result }
+    // On every disk: lines of some records whose flows start in the span, or a prefix of such lines.
+    ensures all { OnOk result (WritesRecords format.now from to (W.contents output.old) (W.contents output.new)) }
+    ensures some { OnErr result (WritesSomeRecords format.now from to (W.contents output.old) (W.contents output.new)) }
+    // On honest ones, damaged or not, each file was read whole.
+    ensures found { IsTrue snapshot.now.honest → OnOk result (WritesOwnRecords format.now from to
+        (kept_by_file snapshot.now.shelf) (W.contents output.old) (W.contents output.new)) }
+    // Of files with a view: the lines are those of the view, or a prefix of these, and no damage is reported.
     ensures told { IsTrue snapshot.now.honest → (v : View) → IsViewOf snapshot.now.shelf v
-        → OnOk result (Appends (W.contents output.old) (W.contents output.new)
-        (records_lines format.now span.now.from span.now.to v)) }
+        → OnOk result (Appends (W.contents output.old) (W.contents output.new) (records_lines format.now from to v)) }
     ensures cut { IsTrue snapshot.now.honest → (v : View) → IsViewOf snapshot.now.shelf v
-        → IfErr result (λ e. IsBlameless e × AppendsFront (W.contents output.old) (W.contents output.new)
-        (records_lines format.now span.now.from span.now.to v)) }
-    ensures cause { HasCause (refusal.Query ReadRefusal.Fault) faults.old faults.new result }
+        → IfErr result (λ e. IsBlameless e
+        × AppendsFront (W.contents output.old) (W.contents output.new) (records_lines format.now from to v)) }
 {
-    match write_records(
-        alloc,
-        snapshot,
-        span.from(),
-        span.to(),
-        format,
-        output,
-        faults,
-    ) {
-        Ok(()) => Ok(()),
-        Err(refusal) => Err(refusal_of(refusal)),
-    }
-}
-
-/// Writes the lines of an archive's records.
-fn list<D: Disk, W: Write>(
-    alloc: Global,
-    archive: &mut Archive<D>,
-    span: &StartSpan,
-    format: &LineFormat<'_>,
-    output: &mut W,
-    faults: &mut Faults<D::Sealed>,
-) -> Result<(), ArchiveRefusal>
-    ensures asked { IsAsked archive.old archive.new }
-    ensures told { IsTrue (D.honest archive.old.disk) → (reads : ℕ → List ℕ) → StandsFor reads archive.old.state
-        → OnOk result (TellsLines (records_lines format.now span.now.from span.now.to) reads (W.contents output.old)
-        (W.contents output.new)) }
-    ensures refused { IsTrue (D.honest archive.old.disk) → (reads : ℕ → List ℕ) → StandsFor reads archive.old.state
-        → IfErr result (TellsUpTo (records_lines format.now span.now.from span.now.to) Always reads
-        (W.contents output.old) (W.contents output.new)) }
-    ensures written { OnOk result (Writes (AreRecordsIn format.now span.now.from span.now.to) (W.contents output.old)
-        (W.contents output.new)) }
-    ensures kept { IfErr result
-        (λ e. WritesUpTo (AreRecordsIn format.now span.now.from span.now.to) e (W.contents output.old)
-        (W.contents output.new)) }
-    ensures opened { IfErr result (λ e. e ≢ refusal.Opening OpenError.Fault) }
-    ensures cause { HasCause (refusal.Query ReadRefusal.Fault) faults.old faults.new result }
-{
-    let asked = to_ask(alloc, archive)?;
-    write_asked(alloc, &asked.snapshot, span, format, output, faults)
-}
-
-/// Opens the archive on a disk, of which nothing is frozen, and writes the lines of the data records that aren't
-/// rolled and whose flows start in a span, in the order in which they were taken in. They are written
-/// while the files are read, one after the other: a refusal of the opening comes before anything is written, and a
-/// later one, a read that failed or out of memory, after a prefix of the lines. It hands the archive on, or gives the
-/// disk back.
-pub fn records<D: Disk, W: Write>(
-    alloc: Global,
-    disk: D,
-    span: &StartSpan,
-    format: &LineFormat<'_>,
-    output: &mut W,
-    faults: &mut Faults<D::Sealed>,
-) -> Result<Archive<D>, Refused<D, ArchiveRefusal>>
-    requires { (n : ℕ) → (D.marks disk n).frozen ≡ false }
-    // On an honest disk the lines are those of the one view of what was read, and no damage is reported once it is
-    // open.
-    ensures told { IsTrue (D.honest disk) → OnOk result
-        (TellsLines (records_lines format.now span.now.from span.now.to) (reads_of (D.held disk))
-        (W.contents output.old) (W.contents output.new)) }
-    ensures refused { IsTrue (D.honest disk) → IfErr result
-        (λ r. TellsUpTo (records_lines format.now span.now.from span.now.to) Always (reads_of (D.held disk))
-        (W.contents output.old) (W.contents output.new) r.error) }
-    // And whatever the disk:
-    ensures written { OnOk result (Writes (AreRecordsIn format.now span.now.from span.now.to) (W.contents output.old)
-        (W.contents output.new)) }
-    ensures kept { IfErr result
-        (λ r. WritesUpTo (AreRecordsIn format.now span.now.from span.now.to) r.error (W.contents output.old)
-        (W.contents output.new)) }
-    ensures honest { D.honest (disk_of result) ≡ D.honest disk }
-    // A stop at any moment leaves what opens as the archive that was there, and that is the one that is handed on.
-    ensures any_moment { KeepsArchive D.Disk disk (disk_of result) }
-    ensures handed { IfOk result (IsHandedOn D.Disk disk) }
-    // After an opening that is refused by 20 to 24 each file reads as before.
-    ensures unchanged { IfErr result (λ r. KeepsFiles D.Disk disk r.disk r.error) }
-    // It is a fault of opening exactly where a call of the disk failed, and one of asking exactly where a read failed.
-    ensures opening { HasCause (refusal.Opening OpenError.Fault) (D.faults disk) (D.faults (disk_of result))
-        (answer_of result) }
-    ensures cause { HasCause (refusal.Query ReadRefusal.Fault) faults.old faults.new (answer_of result) }
-{
-    match Archive::open(alloc, disk) {
-        Ok(archive) => {
-            let mut archive = archive;
-            match list(alloc, &mut archive, span, format, output, faults) {
-                Ok(()) => Ok(archive),
-                Err(error) => Err(Refused {
-                    disk: archive.into_disk(),
-                    error,
-                }),
-            }
-        }
-        Err(refused) => Err(Refused {
-            disk: refused.disk,
-            error: ArchiveRefusal::from(refused.error),
-        }),
-    }
-}
-
-/// Writes these lines of the archive on a disk, and lets the disk go.
-fn write_listing<D: Disk, W: Write>(
-    alloc: Global,
-    disk: D,
-    span: &StartSpan,
-    format: &LineFormat<'_>,
-    output: &mut W,
-) -> Result<(), ArchiveRefusal>
-    requires { (n : ℕ) → (D.marks disk n).frozen ≡ false }
-    ensures written { OnOk result (Writes (AreRecordsIn format.now span.now.from span.now.to) (W.contents output.old)
-        (W.contents output.new)) }
-    ensures kept { IfErr result
-        (λ e. WritesUpTo (AreRecordsIn format.now span.now.from span.now.to) e (W.contents output.old)
-        (W.contents output.new)) }
-{
-    ended(records(alloc, disk, span, format, output, &mut Faults::new()))
-}
-
-/// Asks the archive of a folder for its records. Nothing of the folder is changed, and others may ask it meanwhile.
-pub fn records_in<H: Files + AllocGlobal + Clone + Drop, W: Write>(
-    rt: &H,
-    folder: &str,
-    first_fault: &FirstFault,
-    span: &StartSpan,
-    format: &LineFormat<'_>,
-    output: &mut W,
-) -> Result<(), ArchiveRefusal>
-where
-    H::File: FileExt + Lockable,
-    ensures written { OnOk result (Writes (AreRecordsIn format.now span.now.from span.now.to) (W.contents output.old)
-        (W.contents output.new)) }
-    ensures kept { IfErr result
-        (λ e. WritesUpTo (AreRecordsIn format.now span.now.from span.now.to) e (W.contents output.old)
-        (W.contents output.new)) }
-{
-    let view = FolderView::noting(rt, folder, first_fault)?;
-    write_listing(rt.alloc(), view, span, format, output)
+    let lines = ListLines::new(alloc, format)?;
+    let chosen = ChosenRecords::new(alloc, from, to);
+    let mut listing = Listing { chosen, lines };
+    tell_files(alloc, snapshot, &mut listing, output, faults)?;
+    listing.lines.end(output)?;
+    Ok(())
 }

@@ -33,22 +33,21 @@ pub enum Why {
 
 impl fmt::Display for Why {
     fn fmt<W: fmt::Write>(&self, f: &mut fmt::Formatter<W>) -> fmt::Result {
-        match self {
-            Why::OutOfMemory => write!(f, "out of memory"),
-            Why::NoCommand => write!(f, "no such command, or not with so many words"),
-            Why::NoNumber => write!(f, "a word is no number, or one past its limit"),
-            Why::NoOctets => write!(
-                f,
+        f.write_str(match self {
+            Why::OutOfMemory => "out of memory",
+            Why::NoCommand => "no such command, or not with so many words",
+            Why::NoNumber => "a word is no number, or one past its limit",
+            Why::NoOctets => {
                 "a word is no message's name and no hexadecimal digits of whole octets"
-            ),
-            Why::TooManyOctets => write!(f, "more than 1048576 octets"),
-            Why::TooLong => write!(f, "500000 characters or more"),
-            Why::NoAnswer => write!(f, "no answer: an arrow and what is wanted are missing"),
-            Why::BatchCount => write!(f, "a batch has from 1 to 64 messages"),
-            Why::NoScript => write!(f, "no script has begun"),
-            Why::Misplaced => write!(f, "the command can't be at this place of a part"),
-            Why::NoEnd => write!(f, "the line goes on, and there is no next one"),
-        }
+            }
+            Why::TooManyOctets => "more than 1048576 octets",
+            Why::TooLong => "500000 characters or more",
+            Why::NoAnswer => "no answer: an arrow and what is wanted are missing",
+            Why::BatchCount => "a batch has from 1 to 64 messages",
+            Why::NoScript => "no script has begun",
+            Why::Misplaced => "the command can't be at this place of a part",
+            Why::NoEnd => "the line goes on, and there is no next one",
+        })
     }
 }
 

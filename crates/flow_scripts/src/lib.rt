@@ -9,6 +9,7 @@ mod error;
 mod octets;
 mod reading;
 mod script;
+mod verb;
 mod words;
 
 pub use command::{Command, Damage, Event, OfDisk, Question, Span, Widths};

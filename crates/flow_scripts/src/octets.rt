@@ -106,8 +106,8 @@ const MESSAGES: [(&str, &str); 19] = [
 
 /// The digits that a word means: those of the message with this name, else itself.
 fn meant(word: &str) -> &str {
-    for (name, digits) in MESSAGES {
-        if name == word {
+    for (name, digits) in &MESSAGES {
+        if *name == word {
             return digits;
         }
     }

@@ -54,12 +54,12 @@ impl<'a> Reading<'a> {
             return Err(Why::Misplaced);
         }
         self.is_between = false;
-        let part = ScriptPart {
+        let script = self.script()?;
+        script.parts.push(ScriptPart {
             failing,
             is_shared,
             lines: Vec::new(alloc),
-        };
-        self.script()?.parts.push(part)?;
+        })?;
         Ok(())
     }
 
@@ -73,14 +73,25 @@ impl<'a> Reading<'a> {
         Ok(())
     }
 
-    /// A line of a part.
-    fn add_line(&mut self, alloc: Global, line: Line<'a>) -> Result<(), Why> {
+    /// The part that is read, which begins now where none has.
+    fn part(&mut self, alloc: Global) -> Result<&mut ScriptPart<'a>, Why> {
         if self.is_between {
             self.begin_part(alloc, Failing::Never, false)?;
         }
         match self.script()?.parts.last_mut() {
-            Some(part) => add_to(part, line),
+            Some(part) => Ok(part),
             None => Err(Why::Misplaced),
+        }
+    }
+
+    /// A line of a part.
+    fn add_line(&mut self, alloc: Global, line: Line<'a>) -> Result<(), Why> {
+        match self.part(alloc) {
+            Ok(part) => add_to(part, line),
+            Err(why) => {
+                drop(line);
+                Err(why)
+            }
         }
     }
 }
@@ -88,6 +99,7 @@ impl<'a> Reading<'a> {
 /// A line after the others of a part.
 fn add_to<'a>(part: &mut ScriptPart<'a>, line: Line<'a>) -> Result<(), Why> {
     if !part.may_take(&line.command) {
+        drop(line);
         return Err(Why::Misplaced);
     }
     part.lines.push(line)?;
@@ -107,36 +119,50 @@ fn size_of(words: &[&str]) -> Result<Size, Why> {
     }
 }
 
+/// How words say that a disk fails.
+fn failing_of(words: &[&str]) -> Result<Failing, Why> {
+    match words {
+        ["from", call] => Ok(Failing::From(number(call)?)),
+        ["reads", file, from] => Ok(Failing::Reads(number(file)?, number(from)?)),
+        _ => Err(Why::NoCommand),
+    }
+}
+
+/// The line of words that ask something, and its answer where it has an arrow.
+fn line_of<'a>(
+    alloc: Global,
+    (number, text): (u64, &'a str),
+    words: &[&'a str],
+    answer: Option<&'a str>,
+) -> Result<Line<'a>, Why> {
+    let command = command_of(alloc, words)?;
+    if answer.is_none() && command.answers() {
+        drop(command);
+        return Err(Why::NoAnswer);
+    }
+    let wanted = answer.unwrap_or("");
+    Ok(Line {
+        number,
+        text,
+        command,
+        wanted,
+    })
+}
+
 /// Takes the words of a whole line, and its answer where it has an arrow.
 fn take_words<'a>(
     alloc: Global,
     reading: &mut Reading<'a>,
-    (number_of_line, text): (u64, &'a str),
+    place: (u64, &'a str),
     words: &[&'a str],
     answer: Option<&'a str>,
 ) -> Result<(), Why> {
     match words {
-        ["disk", size @ ..] => return reading.set_size(size_of(size)?),
-        ["shared"] => return reading.begin_part(alloc, Failing::Never, true),
-        ["failing", "from", call] => {
-            return reading.begin_part(alloc, Failing::From(number(call)?), false);
-        }
-        ["failing", "reads", file, from] => {
-            return reading.begin_part(alloc, Failing::Reads(number(file)?, number(from)?), false);
-        }
-        _ => {}
+        ["disk", size @ ..] => reading.set_size(size_of(size)?),
+        ["shared"] => reading.begin_part(alloc, Failing::Never, true),
+        ["failing", failing @ ..] => reading.begin_part(alloc, failing_of(failing)?, false),
+        _ => reading.add_line(alloc, line_of(alloc, place, words, answer)?),
     }
-    let command = command_of(alloc, words)?;
-    if answer.is_none() && command.answers() {
-        return Err(Why::NoAnswer);
-    }
-    let line = Line {
-        number: number_of_line,
-        text,
-        command,
-        wanted: answer.unwrap_or(""),
-    };
-    reading.add_line(alloc, line)
 }
 
 /// Takes a line that isn't empty, no comment, and begins no script.

@@ -15,9 +15,9 @@ use Rattle.flow_report.specs.declared.format.Format.{Format}
 use Rattle.flow_report.specs.Writing.{AppendsFront}
 use Rattle.flow_snapshot.specs.declared.shares.PartSums.{PartSums}
 use Rattle.flow_snapshot.specs.Totals.{wide_table_in, SumsFit}
-use Rattle.flow_together.specs.declared.error.TogetherError.TheVariants as together
-use Rattle.flow_together.specs.Together.{rows_of_sums, width_of_sums, AreSumsOf, IsUnmade}
-use Rattle.flow_together.specs.Together.{OneTableFits}
+use Rattle.flow_several.specs.declared.error.TogetherError.TheVariants as together
+use Rattle.flow_several.specs.Together.{rows_of_sums, width_of_sums, AreSumsOf, IsUnmade}
+use Rattle.flow_several.specs.Together.{OneTableFits}
 use Rattle.flow_several.specs.declared.refusal.SeveralRefusal.{SeveralRefusal}
 use Rattle.flow_several.specs.declared.refusal.SeveralRefusal.TheVariants.{Archive, OutOfMemory, SumSpent, Write}
 use Rattle.flow_several.specs.declared.refusal.SummingRefusal.{SummingRefusal}

@@ -4,7 +4,7 @@ use Rattle.std.specs.Prelude.{IsErrAnd, OnOk, Result, Ok, Err, IfErr}
 use Rattle.flow_disk.specs.Cause.{HasCause, HasRisen}
 use Rattle.flow_manifest.specs.declared.error.OpenError.TheVariants as opening
 use Rattle.flow_refusals.specs.declared.read_refusal.ReadRefusal.TheVariants as query
-use Rattle.flow_together.specs.declared.error.TogetherError.TheVariants as together
+use Rattle.flow_several.specs.declared.error.TogetherError.TheVariants as together
 use Rattle.flow_several.specs.declared.refusal.SeveralRefusal.{SeveralRefusal}
 use Rattle.flow_several.specs.declared.refusal.SeveralRefusal.TheVariants.{Archive, OutOfMemory, SumSpent, Write}
 use Rattle.flow_several.specs.declared.refusal.SummingRefusal.{SummingRefusal}

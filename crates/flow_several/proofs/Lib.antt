@@ -1,7 +1,11 @@
 pub mod OneByOne
-pub mod InTurn
+pub mod AnswersInTurn
 pub mod Faults
 pub mod LinesWritten
 pub mod EachLines
 pub mod Listed
 pub mod EachFlows
+pub mod Opened
+pub mod Taking
+pub mod Adding
+pub mod Several

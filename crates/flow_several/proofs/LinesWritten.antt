@@ -12,7 +12,7 @@ use Rattle.flow_report.specs.declared.text_error.TextError.{TextError}
 use Rattle.flow_report.specs.declared.text_error.TextError.TheVariants as text
 use Rattle.flow_report.specs.ArchiveLines.{rows_text}
 use Rattle.flow_report.specs.Writing.{IsCut}
-use Rattle.flow_together.specs.Together.{first_width, totals_in_views, BothFitTogether, IsUnmade}
+use Rattle.flow_several.specs.Together.{first_width, totals_in_views, BothFitTogether, IsUnmade}
 use Rattle.flow_several.specs.declared.refusal.SeveralRefusal.{SeveralRefusal}
 use Rattle.flow_several.specs.declared.refusal.SeveralRefusal.TheVariants.{Archive, OutOfMemory, SumSpent, Write}
 use Rattle.flow_several.specs.Refusals.{of_sum, of_text}

@@ -17,9 +17,9 @@ use Rattle.flow_snapshot.specs.declared.shares.PartSums.{PartSums}
 use Rattle.flow_snapshot.specs.ShelfSeen.{ShelfSeen}
 use Rattle.flow_refusals.specs.declared.read_refusal.ReadRefusal.{ReadRefusal}
 use Rattle.flow_snapshot.specs.Totals.{first_file, IsTotalsRefusal}
-use Rattle.flow_together.specs.declared.error.TogetherError.{TogetherError}
-use Rattle.flow_together.specs.declared.error.TogetherError.TheVariants as together
-use Rattle.flow_together.specs.Together.{AreSumsOf, FitTogether, IsAddingRefused, IsJoiningRefused}
+use Rattle.flow_several.specs.declared.error.TogetherError.{TogetherError}
+use Rattle.flow_several.specs.declared.error.TogetherError.TheVariants as together
+use Rattle.flow_several.specs.Together.{AreSumsOf, FitTogether, IsAddingRefused, IsJoiningRefused}
 use Rattle.flow_several.specs.declared.refusal.SummingRefusal.{SummingRefusal}
 use Rattle.flow_several.specs.declared.refusal.SummingRefusal.TheVariants.{Opening, Sums}
 use Rattle.flow_several.specs.Several.{AreSummed, IsFirstNotSummed, IsNotSummed, IsNotSummedAlone, IsSummedAlone}

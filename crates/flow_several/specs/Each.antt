@@ -18,9 +18,9 @@ use Rattle.flow_report.specs.Formats.Value.{Number}
 use Rattle.flow_report.specs.Writing.{AppendsFront}
 use Rattle.flow_snapshot.specs.declared.shares.PartSums.{PartSums}
 use Rattle.flow_snapshot.specs.Totals.{first_file, IsTotalsRefusal, SumsFit}
-use Rattle.flow_together.specs.declared.error.TogetherError.{TogetherError}
-use Rattle.flow_together.specs.declared.error.TogetherError.TheVariants as together
-use Rattle.flow_together.specs.Together.{rows_of_sums, width_of_sums, FitTogether}
+use Rattle.flow_several.specs.declared.error.TogetherError.{TogetherError}
+use Rattle.flow_several.specs.declared.error.TogetherError.TheVariants as together
+use Rattle.flow_several.specs.Together.{rows_of_sums, width_of_sums, FitTogether}
 use Rattle.flow_several.specs.declared.refusal.SeveralRefusal.{SeveralRefusal}
 use Rattle.flow_several.specs.declared.refusal.SeveralRefusal.TheVariants.{Archive, OutOfMemory, SumSpent, Write}
 use Rattle.flow_several.specs.declared.refusal.SummingRefusal.{SummingRefusal}

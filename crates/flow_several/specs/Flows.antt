@@ -17,7 +17,7 @@ use Rattle.flow_report.specs.Formats.{heading, line_in, number_or_none}
 use Rattle.flow_report.specs.Formats.Value.{Number, Time}
 use Rattle.flow_report.specs.Writing.{AppendsFront}
 use Rattle.flow_snapshot.specs.Answered.{IsNoDamage}
-use Rattle.flow_together.specs.declared.error.TogetherError.TheVariants as together
+use Rattle.flow_several.specs.declared.error.TogetherError.TheVariants as together
 use Rattle.flow_several.specs.declared.listing_refusal.ListingRefusal.{ListingRefusal}
 use Rattle.flow_several.specs.declared.listing_refusal.ListingRefusal.TheVariants as listing
 use Rattle.flow_several.specs.declared.refusal.SeveralRefusal.{SeveralRefusal}

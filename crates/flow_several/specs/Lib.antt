@@ -3,3 +3,8 @@ pub mod Several
 pub mod Each
 pub mod Flows
 pub mod Turns
+pub mod Questions
+pub mod Folders
+pub mod SideBySide
+pub mod Together
+pub mod Printed

@@ -8,8 +8,8 @@ use Rattle.flow_refusals.specs.declared.code.RefusalCode.TheVariants as code
 use Rattle.flow_refusals.specs.Table.{code_text, row_of}
 use Rattle.flow_report.specs.declared.text_error.TextError.{TextError}
 use Rattle.flow_report.specs.declared.text_error.TextError.TheVariants as text
-use Rattle.flow_together.specs.declared.error.TogetherError.TheVariants as together
-use Rattle.flow_together.specs.Printed.{together_status, together_text}
+use Rattle.flow_several.specs.declared.error.TogetherError.TheVariants as together
+use Rattle.flow_several.specs.Printed.{together_status, together_text}
 use Rattle.flow_several.specs.declared.refusal.SeveralRefusal.{SeveralRefusal}
 use Rattle.flow_several.specs.declared.refusal.SeveralRefusal.TheVariants.{Archive, OutOfMemory, SumSpent, Write}
 use Rattle.flow_several.specs.declared.refusal.SummingRefusal.{SummingRefusal}

@@ -20,10 +20,10 @@ use Rattle.flow_report.specs.ArchiveLines.{rows_text}
 use Rattle.flow_report.specs.Writing.{AppendsFront}
 use Rattle.flow_snapshot.specs.declared.shares.PartSums.{PartSums}
 use Rattle.flow_snapshot.specs.Totals.{first_file, IsTotalsRefusal}
-use Rattle.flow_together.specs.declared.error.TogetherError.TheVariants as together
-use Rattle.flow_together.specs.declared.together.Together.{Together}
-use Rattle.flow_together.specs.Together.{first_width, rows_of_sums, totals_in_views, width_of_sums, AreSumsOf}
-use Rattle.flow_together.specs.Together.{BothFitTogether, FitTogether, IsAddingRefused}
+use Rattle.flow_several.specs.declared.error.TogetherError.TheVariants as together
+use Rattle.flow_several.specs.declared.together.Together.{Together}
+use Rattle.flow_several.specs.Together.{first_width, rows_of_sums, totals_in_views, width_of_sums, AreSumsOf}
+use Rattle.flow_several.specs.Together.{BothFitTogether, FitTogether, IsAddingRefused}
 use Rattle.flow_several.specs.declared.refusal.SeveralRefusal.{SeveralRefusal}
 use Rattle.flow_several.specs.declared.refusal.SeveralRefusal.TheVariants.{Archive, OutOfMemory, SumSpent, Write}
 use Rattle.flow_several.specs.declared.refusal.SummingRefusal.{SummingRefusal}

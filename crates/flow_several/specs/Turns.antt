@@ -12,11 +12,11 @@ use Rattle.flow_manifest.specs.Slots.{reads_of}
 use Rattle.flow_model.specs.Standing.{StandsFor}
 use Rattle.flow_recover.specs.Opening.{IsDeviceOrMemory, StandsForNone}
 use Rattle.flow_refusals.specs.declared.read_refusal.ReadRefusal.TheVariants as query
-use Rattle.flow_side_by_side.specs.Turns as turns
+use Rattle.flow_several.specs.SideBySide as turns
 use Rattle.flow_several.specs.declared.answer.Answer.{Answer}
 use Rattle.flow_several.specs.declared.refusal.SummingRefusal.TheVariants.{Sums}
 use Rattle.flow_several.specs.Several.{readings, DiskReading, IsOwnAnswer, KeepsArchive}
-use Rattle.flow_together.specs.declared.error.TogetherError.TheVariants as together
+use Rattle.flow_several.specs.declared.error.TogetherError.TheVariants as together
 
 -- ---- one archive
 

@@ -1,8 +1,8 @@
 //! What an archive answers by itself.
 
 use crate::refusal::SummingRefusal;
+use crate::together::Together;
 use flow_disk::{Faults, SealedFile};
-use flow_together::Together;
 
 /// What an archive answers by itself, and how many of its reads failed.
 #[derive(Drop)]

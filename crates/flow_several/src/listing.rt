@@ -22,7 +22,9 @@ ghost use Rattle.flow_several.specs.Flows.{WritesSomeFlows};
 ghost use Rattle.flow_several.specs.Several.{readings, HasReadCause, KeepsArchive};
 ghost use Rattle.flow_several.specs.Turns.{IsOpened};
 
+use crate::asked::Asking;
 use crate::flow_lines::{write_flows, write_names};
+use crate::in_turn::InTurn;
 use crate::listing_refusal::ListingRefusal;
 use crate::refusal::SeveralRefusal;
 use flow_archive::{Archive, Refused};
@@ -32,7 +34,6 @@ use flow_measure::Flow;
 use flow_model::one_view_of_a_state;
 use flow_refusals::ReadRefusal;
 use flow_report::Format;
-use flow_side_by_side::{Asking, InTurn};
 use flow_snapshot::Snapshot;
 use std::alloc::{AllocError, Global};
 use std::io::Write;

@@ -5,11 +5,11 @@ ghost use Rattle.flow_refusals.specs.declared.read_refusal.ReadRefusal.TheVarian
 ghost use Rattle.flow_several.specs.Flows.{of_listing, of_text};
 ghost use Rattle.flow_several.specs.declared.listing_refusal.ListingRefusal.TheVariants as listing;
 
+use crate::error::TogetherError;
 use crate::refusal::{SeveralRefusal, SummingRefusal};
 use flow_manifest::OpenError;
 use flow_refusals::ReadRefusal;
 use flow_report::{TextError, WriteFailed};
-use flow_together::TogetherError;
 use std::alloc::AllocError;
 
 /// Why an archive's flows aren't all listed.

@@ -4,15 +4,15 @@ ghost use Rattle.std.specs.Prelude.{◌≡◌, ◌≢◌, ◌≤◌, Some};
 ghost use Rattle.flow_several.specs.Refusals.{of_sum, of_text, several_status, several_text, summing_status};
 ghost use Rattle.flow_several.specs.Refusals.{summing_text};
 ghost use Rattle.flow_refusals.specs.declared.read_refusal.ReadRefusal.TheVariants as query;
-ghost use Rattle.flow_together.specs.declared.error.TogetherError.TheVariants as together;
+ghost use Rattle.flow_several.specs.declared.error.TogetherError.TheVariants as together;
 ghost use Rattle.flow_several.specs.declared.refusal.SeveralRefusal.TheVariants as several;
 ghost use Rattle.flow_several.specs.declared.refusal.SummingRefusal.TheVariants.{Opening, Sums};
 
+use crate::error::TogetherError;
 use flow_manifest::OpenError;
 use flow_measure::SumError;
 use flow_refusals::{ReadRefusal, RefusalCode};
 use flow_report::{TextError, WriteFailed};
-use flow_together::TogetherError;
 use std::alloc::AllocError;
 use std::error::Error;
 use std::fmt;

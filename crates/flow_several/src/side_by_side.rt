@@ -6,15 +6,16 @@ ghost use Rattle.flow_refusals.specs.declared.read_refusal.ReadRefusal.TheVarian
 ghost use Rattle.flow_several.specs.declared.refusal.SummingRefusal.TheVariants as summing;
 ghost use Rattle.flow_several.specs.Several.{DiskReading, IsOwnAnswer};
 ghost use Rattle.flow_several.specs.Turns.{AreReady, Awaits, IsAnswerOf};
-ghost use Rattle.flow_together.specs.declared.error.TogetherError.TheVariants as together;
+ghost use Rattle.flow_several.specs.declared.error.TogetherError.TheVariants as together;
 
 use crate::answer::Answer;
+use crate::asked::Asking;
+use crate::in_turn::InTurn;
 use crate::refusal::SummingRefusal;
 use crate::summing::open_and_sum;
+use crate::together::Together;
 use flow_disk::{Disk, Faults};
 use flow_manifest::OpenError;
-use flow_side_by_side::{Asking, InTurn};
-use flow_together::Together;
 use std::alloc::Global;
 use std::thread::Threads;
 

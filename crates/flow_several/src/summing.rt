@@ -6,20 +6,20 @@ ghost use Rattle.flow_disk.specs.Cause.{HasCause};
 ghost use Rattle.flow_manifest.specs.Slots.{reads_of};
 ghost use Rattle.flow_measure.specs.View.{View};
 ghost use Rattle.flow_model.specs.Standing.{StandsFor};
-ghost use Rattle.flow_together.specs.Together.{AreSumsOf};
-ghost use Rattle.flow_together.specs.declared.error.TogetherError.TheVariants as together;
+ghost use Rattle.flow_several.specs.Together.{AreSumsOf};
+ghost use Rattle.flow_several.specs.declared.error.TogetherError.TheVariants as together;
 ghost use Rattle.flow_several.specs.declared.refusal.SummingRefusal.TheVariants as summing;
 ghost use Rattle.flow_several.specs.Several.{readings, AreSummed, DiskReading, HasReadCause, IsFirstRefused};
 ghost use Rattle.flow_several.specs.Several.{IsNotSummed, IsOfAnArchive, IsOwnAnswer, IsSummedWith, KeepsArchive};
 
 use crate::refusal::{SeveralRefusal, SummingRefusal};
 use crate::side_by_side::SumsOfEach;
+use crate::together::Together;
 use flow_archive::Archive;
 use flow_disk::{Disk, Faults};
 use flow_manifest::OpenError;
 use flow_model::one_view_of_a_state;
 use flow_refusals::ReadRefusal;
-use flow_together::Together;
 use std::alloc::Global;
 use std::thread::Threads;
 

@@ -2,17 +2,18 @@
 
 ghost use Rattle.std.specs.Prelude.{◌≡◌, ℕ, IfErr, OnOk, List, MatchResult};
 ghost use Rattle.std.specs.Io.KnownBytes.{Appends};
-ghost use Rattle.flow_together.specs.Together.{rows_of_sums, width_of_sums, OneTableFits};
+ghost use Rattle.flow_several.specs.Together.{rows_of_sums, width_of_sums, OneTableFits};
 ghost use Rattle.flow_several.specs.Each.{archive_lines, IsLineRefusal};
 ghost use Rattle.flow_several.specs.Refusals.{of_rows};
 ghost use Rattle.flow_several.specs.Several.{AreSummed, IsOfAnArchive, AreTotalsUnwritten, WritesNoRows, WritesRows};
 ghost use Rattle.flow_several.specs.Several.{WritesTotals};
 
+use crate::error::TogetherError;
 use crate::numbered::lines_of;
 use crate::refusal::{SeveralRefusal, SummingRefusal};
+use crate::together::Together;
 use flow_measure::SumError;
 use flow_report::{Format, Patience, write_patiently, write_rows};
-use flow_together::{Together, TogetherError};
 use std::alloc::Global;
 use std::io::Write;
 

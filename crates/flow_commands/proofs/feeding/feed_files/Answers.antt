@@ -5,12 +5,12 @@ use Rattle.flow_commands.specs.Feeding.{TellsFiles}
 use Rattle.flow_commands.proofs.Lines.{start_refused}
 use Rattle.flow_commands.proofs.feeding.feed_files.Goals as goal
 
-pub returns-in_default-clause-fed : goal.returns-in_default-clause-fed
-returns-in_default-clause-fed g c =
+pub returns-in-Err-clause-fed : goal.returns-in-Err-clause-fed
+returns-in-Err-clause-fed g c =
     start_refused (g.W.Write.contents c.args.output.now) c.args.feds.items (length c.args.paths.now) c.requires.room
 
-pub returns-in_default-clause-asked : goal.returns-in_default-clause-asked
-returns-in_default-clause-asked g c = inr (refl, Keeps-refl (g.W.Write.contents c.args.output.now))
+pub returns-in-Err-clause-asked : goal.returns-in-Err-clause-asked
+returns-in-Err-clause-asked g c = inr (refl, Keeps-refl (g.W.Write.contents c.args.output.now))
 
 pub returns-clause-asked : goal.returns-clause-asked
 returns-clause-asked g c =

@@ -3,8 +3,8 @@ use Rattle.std.specs.Borrow.{Bor}
 use Rattle.std.proofs.KnownBytes.{Keeps-refl, Keeps-trans}
 use Rattle.std.specs.List.{All}
 use Rattle.std.proofs.lemmas.List.Elements.{All-nil}
-use Rattle.flow_several_folders.proofs.Opened.{paths_of}
-use Rattle.flow_several_folders.specs.Folders.{Path}
+use Rattle.flow_several.proofs.Opened.{paths_of}
+use Rattle.flow_several.specs.Folders.{Path}
 use Rattle.flow_program.specs.Checks.{ChecksEnd, IsOutcome}
 use Rattle.flow_program.specs.SideBySide.{outcome_of, AreAhead, MayBeChecked}
 use Rattle.flow_program.proofs.Ahead.{none_ahead, turn_is}

@@ -1,7 +1,7 @@
 use Rattle.std.proofs.Common.{◌≡◌, ◌≢◌, ◌≤◌, drop}
 use Rattle.std.specs.Io.KnownBytes.{Keeps}
 use Rattle.std.specs.List.{All}
-use Rattle.flow_several_folders.proofs.Opened.{paths_of}
+use Rattle.flow_several.proofs.Opened.{paths_of}
 use Rattle.flow_program.specs.Checks.{IsOutcome}
 use Rattle.flow_program.specs.SideBySide.{AreAhead, MayBeChecked}
 use Rattle.flow_program.proofs.Checked.{HaveChecked}

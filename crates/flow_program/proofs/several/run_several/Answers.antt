@@ -4,10 +4,10 @@ use Rattle.std.proofs.lemmas.List.{length-map}
 use Rattle.clap.specs.Walk.{Text}
 use Rattle.flow_commands.specs.Plans.{Span}
 use Rattle.flow_report.specs.declared.format.Format.{Format}
-use Rattle.flow_several_folders.specs.declared.asking.Question.{Question}
-use Rattle.flow_several_folders.specs.declared.asking.Wanted.{Wanted}
-use Rattle.flow_several_folders.specs.Folders.{AnswersFolders, AreFoldersRefused, KeepsOrRows}
-use Rattle.flow_several_folders.specs.Questions.{AnswersRows}
+use Rattle.flow_several.specs.declared.asking.Question.{Question}
+use Rattle.flow_several.specs.declared.asking.Wanted.{Wanted}
+use Rattle.flow_several.specs.Folders.{AnswersFolders, AreFoldersRefused, KeepsOrRows}
+use Rattle.flow_several.specs.Questions.{AnswersRows}
 use Rattle.flow_program.proofs.Reported.{is_answered, without_clock}
 use Rattle.flow_program.proofs.several.run_several.Goals as goal
 

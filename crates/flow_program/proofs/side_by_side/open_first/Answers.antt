@@ -3,7 +3,7 @@ use Rattle.std.specs.List.{All, AllZip}
 use Rattle.std.proofs.lemmas.List.{length_push}
 use Rattle.std.proofs.lemmas.List.Elements.{All-push}
 use Rattle.std.proofs.lemmas.Result.{MatchResult-from_both}
-use Rattle.flow_several_folders.proofs.Opened.{opened_more, paths_of}
+use Rattle.flow_several.proofs.Opened.{opened_more, paths_of}
 use Rattle.flow_program.specs.SideBySide.{IsOpened, MayBeChecked}
 use Rattle.flow_program.proofs.Ahead.{opened_first}
 use Rattle.flow_program.proofs.side_by_side.open_first.Goals as goal

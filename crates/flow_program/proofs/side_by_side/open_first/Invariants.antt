@@ -1,6 +1,6 @@
 use Rattle.std.proofs.Common.{◌≡◌, length, take}
 use Rattle.std.specs.List.{All, AllZip}
-use Rattle.flow_several_folders.proofs.Opened.{paths_of}
+use Rattle.flow_several.proofs.Opened.{paths_of}
 use Rattle.flow_program.specs.SideBySide.{IsOpened, MayBeChecked}
 use Rattle.flow_program.proofs.side_by_side.open_first.Given as goal
 

@@ -2,15 +2,15 @@ use Rattle.std.proofs.Common.{◌≡◌, ◌∙◌, ◌+◌, ℕ, ap, arith, dro
 use Rattle.std.specs.Prelude.{IsTrue, IfErr, IsOk, OnOk, Err}
 use Rattle.std.specs.List.{All}
 use Rattle.flow_manifest.specs.Slots.{reads_of}
-use Rattle.flow_side_by_side.specs.Turns.{Awaits}
-use Rattle.flow_side_by_side.proofs.Taking.{at_head, next_one, of_none}
+use Rattle.flow_several.specs.SideBySide.{Awaits}
+use Rattle.flow_several.proofs.Taking.{at_head, next_one, of_none}
 use Rattle.flow_several.specs.Flows.{AreFlowsRead, AreFlowsRefused, IsListedUpTo, Lists, ListsUpTo}
 use Rattle.flow_several.specs.Flows.{StartIn, WritesSomeFlows}
 use Rattle.flow_several.specs.Several.{readings, HasReadCause}
 use Rattle.flow_several.specs.Turns.{IsOpened}
 use Rattle.flow_several.proofs.EachFlows.{all_written, none_failed, none_listed, one_listed, own_refused, refused_so}
 use Rattle.flow_several.proofs.EachFlows.{some_refused, some_written, Starting}
-use Rattle.flow_several.proofs.InTurn.{when_done}
+use Rattle.flow_several.proofs.AnswersInTurn.{when_done}
 use Rattle.flow_several.proofs.OneByOne.{all_reads, at_turn, map_length, reads_at, reads_before, reads_next, when_err}
 use Rattle.flow_several.proofs.OneByOne.{when_ok}
 use Rattle.flow_several.proofs.listing.flows_of_each.Goals as goal

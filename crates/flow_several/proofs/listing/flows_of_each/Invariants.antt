@@ -1,7 +1,7 @@
 use Rattle.std.proofs.Common.{◌≡◌, ◌+◌, ℕ, false, drop, length}
 use Rattle.std.specs.Prelude.{IsTrue}
 use Rattle.std.specs.List.{All}
-use Rattle.flow_side_by_side.specs.Turns.{Awaits}
+use Rattle.flow_several.specs.SideBySide.{Awaits}
 use Rattle.flow_several.specs.Flows.{AreFlowsRead}
 use Rattle.flow_several.specs.Several.{readings}
 use Rattle.flow_several.specs.Turns.{IsOpened}

@@ -3,7 +3,7 @@ use Rattle.std.specs.Prelude.{IsOk, OnOk}
 use Rattle.flow_several.specs.Several.{readings}
 use Rattle.flow_several.specs.Turns.{Awaits}
 use Rattle.flow_several.proofs.Faults.{none_failed, nothing_failed, refused_by}
-use Rattle.flow_several.proofs.InTurn.{all_left, joined_err, joined_ok, ready_first, when_done}
+use Rattle.flow_several.proofs.AnswersInTurn.{all_left, joined_err, joined_ok, ready_first, when_done}
 use Rattle.flow_several.proofs.OneByOne.{all_summed, first_refused, none_summed, summed_more}
 use Rattle.flow_several.proofs.summing.sum_all.Goals as goal
 

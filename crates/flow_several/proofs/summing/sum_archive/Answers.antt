@@ -1,5 +1,5 @@
 use Rattle.flow_refusals.specs.declared.read_refusal.ReadRefusal.TheVariants as query
-use Rattle.flow_together.specs.declared.error.TogetherError.TheVariants as together
+use Rattle.flow_several.specs.declared.error.TogetherError.TheVariants as together
 use Rattle.flow_several.specs.declared.refusal.SummingRefusal.TheVariants.{Sums}
 use Rattle.flow_several.specs.Several.{IsNotSummedAlone, IsSummedAlone}
 use Rattle.flow_several.proofs.OneByOne.{err_matched, not_alone, summed_alone}

@@ -7,7 +7,7 @@ use Rattle.flow_several.specs.Several.{readings}
 use Rattle.flow_several.specs.Turns.{Awaits}
 use Rattle.flow_several.proofs.EachLines.{all_written, each_cut, each_refused, none_written, one_written, some_cut}
 use Rattle.flow_several.proofs.Faults.{none_failed}
-use Rattle.flow_several.proofs.InTurn.{all_left, next_err, next_ok, ready_first, when_done}
+use Rattle.flow_several.proofs.AnswersInTurn.{all_left, next_err, next_ok, ready_first, when_done}
 use Rattle.flow_several.proofs.totalling.totals_of_each.Goals as goal
 
 pub answers-init : goal.answers-init

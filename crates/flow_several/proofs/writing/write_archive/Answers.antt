@@ -1,5 +1,5 @@
 use Rattle.std.proofs.Common.{subst, sym}
-use Rattle.flow_together.specs.Together.{rows_of_sums, width_of_sums, OneTableFits}
+use Rattle.flow_several.specs.Together.{rows_of_sums, width_of_sums, OneTableFits}
 use Rattle.flow_several.specs.Each.{archive_lines, IsLineRefusal}
 use Rattle.flow_several.proofs.EachLines.{rows_refused}
 use Rattle.flow_several.proofs.writing.write_archive.Goals as goal

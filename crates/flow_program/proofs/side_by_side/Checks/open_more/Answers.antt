@@ -3,8 +3,8 @@ use Rattle.std.specs.Borrow.{Bor}
 use Rattle.std.specs.List.{AllZip}
 use Rattle.std.proofs.Math.Seq.{take-length}
 use Rattle.std.proofs.lemmas.List.{drop-map, length-drop}
-use Rattle.flow_several_folders.proofs.Opened.{paths_of}
-use Rattle.flow_several_folders.specs.Folders.{Path}
+use Rattle.flow_several.proofs.Opened.{paths_of}
+use Rattle.flow_several.specs.Folders.{Path}
 use Rattle.flow_program.specs.SideBySide.{IsOpened}
 use Rattle.flow_program.proofs.Ahead.{opened_ahead}
 use Rattle.flow_program.proofs.side_by_side.Checks.open_more.Goals as goal

@@ -1,7 +1,7 @@
 use Rattle.std.proofs.Common.{inl, inr, refl}
 use Rattle.flow_several.proofs.Faults.{cause_added}
-use Rattle.flow_several.proofs.InTurn.{counted, done_so, failed_so, none_left, ok_so, on_ok, ready_again, still_ready}
-use Rattle.flow_several.proofs.InTurn.{taken, unasked}
+use Rattle.flow_several.proofs.AnswersInTurn.{counted, done_so, failed_so, none_left, ok_so, on_ok, ready_again, still_ready}
+use Rattle.flow_several.proofs.AnswersInTurn.{taken, unasked}
 use Rattle.flow_several.proofs.side_by_side.SumsOfEach.next.Goals as goal
 
 pub returns-in-None-clause-ready : goal.returns-in-None-clause-ready

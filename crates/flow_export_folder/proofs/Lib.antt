@@ -1,3 +1,0 @@
-mod AskedFor
-mod ByTime
-mod Cut

@@ -1,5 +1,0 @@
-use Rattle.flow_together.proofs.Several.{together}
-use Rattle.flow_together.proofs.laws.sums_of_several.Goals as goal
-
-pub returns-clause-together : goal.returns-clause-together
-returns-clause-together c = together
